@@ -1,0 +1,5 @@
+pub mod Fields
+pub mod Refusals
+pub mod Themes
+pub mod Pages
+pub mod Held
