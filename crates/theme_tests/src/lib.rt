@@ -1,59 +1,55 @@
 // Pages that are read, refused and written, by example. Each expected answer is worked out by hand.
-use std::alloc::AllocError;
-use std::alloc::Global;
-use std::alloc::Refused;
-use theme::refusal::PageRefusal;
-use theme::theme::Theme;
-
-/// A page and the refusal that it gets: its number, line and column.
-#[derive(Clone, Copy)]
-pub struct Refusal {
-    pub page: &'static [u8],
-    pub number: u32,
-    pub line: usize,
-    pub column: usize,
-}
-
-/// The answer to a page: nothing where it is accepted, else number, line and column.
-pub fn answer(theme: &mut Theme, page: &[u8]) -> Option<(u32, usize, usize)> {
-    match theme.read(page) {
-        Ok(()) => None,
-        Err(refusal) => {
-            let at = refusal.position();
-            Some((refusal.number(), at.line, at.column))
-        }
-    }
-}
-
-// A number in four columns, for numbers below 100.
-fn put_number(page: &mut Vec<u8>, number: u8) -> Result<(), AllocError> {
-    page.extend_from_slice(b"  ")?;
-    page.push(if number < 10 {
-        b' '
-    } else {
-        b'0' + number / 10 % 10
-    })?;
-    page.push(b'0' + number % 10)?;
-    Ok(())
-}
-
-/// The page of so many pins, all at key 12, in one bar.
-pub fn pins(heap: Global, count: u8) -> Result<Vec<u8>, AllocError> {
-    let mut page = Vec::new(heap);
-    put_number(&mut page, count)?;
-    put_number(&mut page, count)?;
-    page.push(b'\n')?;
-    for place in 0..count {
-        put_number(&mut page, place)?;
-        page.extend_from_slice(b"  12 p\n")?;
-    }
-    Ok(page)
-}
-
 #[cfg(test)]
 mod tests {
-    use super::*;
+    use std::alloc::AllocError;
+    use std::alloc::Global;
     use std::test::*;
+    use theme::theme::Theme;
+
+    // A page and the refusal that it gets: its number, line and column.
+    #[derive(Clone, Copy)]
+    struct Refusal {
+        page: &'static [u8],
+        number: u32,
+        line: usize,
+        column: usize,
+    }
+
+    // The answer to a page: nothing where it is accepted, else number, line and column.
+    fn answer(theme: &mut Theme, page: &[u8]) -> Option<(u32, usize, usize)> {
+        match theme.read(page) {
+            Ok(()) => None,
+            Err(refusal) => {
+                let at = refusal.position();
+                Some((refusal.number(), at.line, at.column))
+            }
+        }
+    }
+
+    // A number in four columns, for numbers below 100.
+    fn put_number(page: &mut Vec<u8>, number: u8) -> Result<(), AllocError> {
+        page.extend_from_slice(b"  ")?;
+        page.push(if number < 10 {
+            b' '
+        } else {
+            b'0' + number / 10 % 10
+        })?;
+        page.push(b'0' + number % 10)?;
+        Ok(())
+    }
+
+    // The page of so many pins, all at key 12, in one bar.
+    fn pins(heap: Global, count: u8) -> Result<Vec<u8>, AllocError> {
+        let mut page = Vec::new(heap);
+        put_number(&mut page, count)?;
+        put_number(&mut page, count)?;
+        page.push(b'\n')?;
+        for place in 0..count {
+            put_number(&mut page, place)?;
+            page.extend_from_slice(b"  12 p\n")?;
+        }
+        Ok(page)
+    }
 
     const TWO: &[u8] = b"   2   2\n   0   7 p\n   1   8 p\n";
 
