@@ -1,0 +1,5 @@
+// Two-voice counterpoint: intervals, moments, successions, and the books that judge them.
+// Knows nothing of themes, lines or sheets.
+pub mod interval;
+pub mod kinds;
+pub mod refusal;
