@@ -1,5 +1,9 @@
 // Two-voice counterpoint: intervals, moments, successions, and the books that judge them.
 // Knows nothing of themes, lines or sheets.
+pub mod book;
+pub mod free;
 pub mod interval;
 pub mod kinds;
+pub mod moments;
+mod motion;
 pub mod refusal;
