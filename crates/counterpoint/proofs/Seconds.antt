@@ -15,3 +15,10 @@ some-cond false x y e = let z : _≡_ {A = ℕ} 0 1 = cc in absurd (omega arith)
 
 pub some-second : (s : Succession) (m : Moment) → Some m ≡ second-in-range s → (succession-in-range s ≡ true) × (m ≡ second-moment s)
 some-second s m e = some-cond (succession-in-range s) m (second-moment s) e
+
+none-cond : (b : Bool) (y : Moment) → None ≡ cond b (Some y) None → b ≡ false
+none-cond true y e = let z : _≡_ {A = ℕ} 0 1 = cc in absurd (omega arith)
+none-cond false y e = refl
+
+pub none-second : (s : Succession) → None ≡ second-in-range s → succession-in-range s ≡ false
+none-second s e = none-cond (succession-in-range s) (second-moment s) e

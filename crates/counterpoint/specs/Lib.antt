@@ -5,3 +5,5 @@ pub mod Moments
 pub mod Motion
 pub mod Books
 pub mod Free
+pub mod Strict
+pub mod Verdicts

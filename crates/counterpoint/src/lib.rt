@@ -7,3 +7,4 @@ pub mod kinds;
 pub mod moments;
 mod motion;
 pub mod refusal;
+pub mod strict;

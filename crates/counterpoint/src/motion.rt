@@ -1,7 +1,7 @@
 // How two voices move from one interval to the next.
 // Knows nothing of moments or books.
 ghost use mathlib.Core.Path.{_≡_};
-ghost use Rattle.counterpoint.specs.Motion.{similar, one-perfect-class, parallel};
+ghost use Rattle.counterpoint.specs.Motion.{similar, one-perfect-class, parallel, both-move};
 use crate::interval::class;
 use crate::interval::is_perfect;
 
@@ -24,4 +24,11 @@ pub(crate) fn is_parallel(first: i32, second: i32, dx: i32, dc: i32) -> bool
     ensures { λ r. ⌜ r ≡ parallel first second dx dc ⌝ }
 {
     is_one_perfect_class(first, second) && is_similar(dx, dc)
+}
+
+// Whether both voices move.
+pub(crate) fn do_both_move(dx: i32, dc: i32) -> bool
+    ensures { λ r. ⌜ r ≡ both-move dx dc ⌝ }
+{
+    dx != 0 && dc != 0
 }
