@@ -1,2 +1,3 @@
 pub mod Seconds
 pub mod Conjunctions
+pub mod Bounds

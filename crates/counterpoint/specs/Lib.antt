@@ -7,3 +7,5 @@ pub mod Books
 pub mod Free
 pub mod Strict
 pub mod Verdicts
+pub mod Vertical
+pub mod Examples
