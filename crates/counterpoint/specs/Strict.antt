@@ -61,19 +61,19 @@ resolved-down m dx dc = implies (strong-dissonance m) (down (held-step m dx dc) 
 abbrev pub tied : Moment → Bool
 tied m = implies (dissonant (m .interval)) (one-held m)
 
--- what becomes of a dissonance as it is entered by the steps dx and dc
-abbrev pub entered-well : Moment → ℤ → ℤ → Bool
-entered-well m dx dc = passed-by-step m dx dc && tied m
-
--- and as it is left by them
+-- what is asked of the first moment as it is left by the steps dx and dc
 abbrev pub left-well : Moment → ℤ → ℤ → Bool
 left-well m dx dc = passed-by-step m dx dc && resolved-down m dx dc && tied m
 
--- the rules of motion, from the interval i to the interval j
+-- and of the second as it is entered by them
+abbrev pub entered-well : Moment → ℤ → ℤ → Bool
+entered-well m dx dc = passed-by-step m dx dc && tied m
+
+-- the rules of motion together, from the interval i to the interval j
 abbrev pub moves-well : ℤ → ℤ → ℤ → ℤ → Bool
 moves-well i j dx dc = singable dx && no-hidden-perfect j dx dc && no-repeated-perfect i j dx dc
 
--- the rules of dissonance, from the moment m to the moment n
+-- the rules of dissonance together, from the moment m to the moment n
 abbrev pub treats-dissonance : Moment → Moment → ℤ → ℤ → Bool
 treats-dissonance m n dx dc = no-two-dissonances (m .interval) (n .interval) && left-well m dx dc && entered-well n dx dc
 

@@ -11,13 +11,13 @@ use crate::refusal::Refusal;
 #[derive(Clone, Copy, PartialEq, Eq, Debug)]
 pub enum IntervalKind {
     /// A consonance that stays one.
-    FixedConsonance,
+    FixedConsonance = 0,
     /// A consonance that becomes a dissonance.
-    VariableConsonance,
+    VariableConsonance = 1,
     /// A dissonance that stays one.
-    FixedDissonance,
+    FixedDissonance = 2,
     /// A dissonance that becomes a consonance.
-    VariableDissonance,
+    VariableDissonance = 3,
 }
 
 impl IntervalKind {

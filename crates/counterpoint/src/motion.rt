@@ -27,7 +27,7 @@ pub(crate) fn is_parallel(first: i32, second: i32, dx: i32, dc: i32) -> bool
 }
 
 // Whether both voices move.
-pub(crate) fn do_both_move(dx: i32, dc: i32) -> bool
+pub(crate) fn both_move(dx: i32, dc: i32) -> bool
     ensures { λ r. ⌜ r ≡ both-move dx dc ⌝ }
 {
     dx != 0 && dc != 0

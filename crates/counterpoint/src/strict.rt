@@ -12,7 +12,7 @@ use crate::moments::Accent;
 use crate::moments::Moment;
 use crate::moments::Succession;
 use crate::moments::Voice;
-use crate::motion::do_both_move;
+use crate::motion::both_move;
 use crate::motion::is_one_perfect_class;
 use crate::motion::is_similar;
 
@@ -69,7 +69,7 @@ fn avoids_hidden_perfect(second: i32, dx: i32, dc: i32) -> bool
 fn avoids_repeated_perfect(first: i32, second: i32, dx: i32, dc: i32) -> bool
     ensures { λ r. ⌜ r ≡ no-repeated-perfect first second dx dc ⌝ }
 {
-    !(is_one_perfect_class(first, second) && do_both_move(dx, dc))
+    !(is_one_perfect_class(first, second) && both_move(dx, dc))
 }
 
 // Whether at most one of two intervals is a dissonance.
