@@ -1,3 +1,2 @@
-pub mod Seconds
 pub mod Conjunctions
 pub mod Bounds

@@ -12,7 +12,7 @@ use crate::moments::Voice;
 use crate::motion::is_parallel;
 
 /// The free book: it refuses unprepared strong dissonances, far leaps, and parallel perfect consonances.
-#[derive(Clone, Copy, PartialEq, Eq, Debug)]
+#[derive(Clone, Copy)]
 pub struct Free;
 
 pub impl Book for Free as FreeBook {
@@ -21,17 +21,11 @@ pub impl Book for Free as FreeBook {
     ghost allows = { λ _. free-allows };
 
     fn admits(&self, moment: Moment) -> bool {
-        let Moment {
-            interval,
-            line,
-            theme,
-            accent,
-        } = moment;
         let bare = matches!(
-            (line, theme, accent),
+            (moment.line, moment.theme, moment.accent),
             (Voice::Struck, Voice::Struck, Accent::Strong)
         );
-        is_interval_in_range(interval) && !(bare && is_dissonant(interval))
+        is_interval_in_range(moment.interval) && !(bare && is_dissonant(moment.interval))
     }
 
     fn allows(&self, succession: Succession) -> bool {

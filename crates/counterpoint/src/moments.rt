@@ -1,28 +1,29 @@
 // Moments, in which line and theme sound together, and the successions of two of them.
 // Knows nothing of what makes one good or bad.
-ghost use mathlib.Core.Bool.{true};
+ghost use mathlib.Core.Bool.{true, false};
 ghost use mathlib.Core.Path.{_≡_};
+ghost use Rattle.std.specs.Options.{Cases};
 ghost use Rattle.counterpoint.specs.Interval.{shift-in-range};
-ghost use Rattle.counterpoint.specs.Moments.{moment-in-range, raised, raised-succession, second-in-range, second-interval};
+ghost use Rattle.counterpoint.specs.Moments.{moment-in-range, raised, raised-succession, second-in-range, second-interval, second-moment, succession-in-range};
 use crate::interval::is_interval_in_range;
 use crate::interval::is_shift_in_range;
 
 /// How a voice sounds: struck anew, or held over from the moment before.
-#[derive(Clone, Copy, PartialEq, Eq, Debug)]
+#[derive(Clone, Copy)]
 pub enum Voice {
     Struck,
     Held,
 }
 
 /// Whether a moment falls on a strong place or on a weak one.
-#[derive(Clone, Copy, PartialEq, Eq, Debug)]
+#[derive(Clone, Copy)]
 pub enum Accent {
     Strong,
     Weak,
 }
 
 /// What sounds together at one place.
-#[derive(Clone, Copy, PartialEq, Eq, Debug)]
+#[derive(Clone, Copy)]
 pub struct Moment {
     /// The line's key less the theme's.
     pub interval: i32,
@@ -35,7 +36,7 @@ pub struct Moment {
 }
 
 /// A moment and the way on to the next one, whose interval follows from it.
-#[derive(Clone, Copy, PartialEq, Eq, Debug)]
+#[derive(Clone, Copy)]
 pub struct Succession {
     /// The moment that is left.
     pub first: Moment,
@@ -67,7 +68,8 @@ impl Moment {
 impl Succession {
     /// The second moment, or none where an interval is beyond 100 or a step beyond 23, either way.
     pub fn second(self) -> Option<Moment>
-        ensures { λ r. ⌜ r ≡ second-in-range self ⌝ }
+        ensures answer { λ r. ⌜ r ≡ second-in-range self ⌝ }
+        ensures cases { λ r. ⌜ Cases r (succession-in-range self ≡ false) (λ m. (succession-in-range self ≡ true) × (m ≡ second-moment self)) ⌝ }
     {
         if !is_interval_in_range(self.first.interval)
             || !is_shift_in_range(self.dx)

@@ -17,19 +17,19 @@ use crate::motion::is_one_perfect_class;
 use crate::motion::is_similar;
 
 /// The strict book: dissonances are held over and resolved by step, perfect consonances approached with care.
-#[derive(Clone, Copy, PartialEq, Eq, Debug)]
+#[derive(Clone, Copy)]
 pub struct Strict;
 
-// The verdicts on moments: a row for each class, 0 to 6; in a row both voices struck, the theme
-// held, the line held, both held.
+// The verdicts on moments, a row for each class from 0 to 6: with both voices struck, with the
+// theme held, with the line held, with both held.
 const VERDICTS: [[bool; 4]; 7] = [
-    [true, true, true, true],
-    [false, true, true, false],
-    [true, true, true, true],
-    [false, true, true, false],
-    [true, true, true, true],
-    [true, true, true, true],
-    [false, true, true, false],
+    [true, true, true, true], // unisons and octaves
+    [false, true, true, false], // seconds
+    [true, true, true, true], // thirds
+    [false, true, true, false], // fourths
+    [true, true, true, true], // fifths
+    [true, true, true, true], // sixths
+    [false, true, true, false], // sevenths
 ];
 
 // The column of a striking pair.
