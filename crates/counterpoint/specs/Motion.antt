@@ -14,7 +14,7 @@ down d = ltZ d (pos 0)
 
 -- both voices go up, or both go down
 abbrev pub similar : ℤ → ℤ → Bool
-similar dx dc = up dx && up dc || down dx && down dc
+similar dx dc = (up dx && up dc) || (down dx && down dc)
 
 -- both voices move
 abbrev pub both-move : ℤ → ℤ → Bool

@@ -100,7 +100,8 @@ impl Succession {
     /// The same succession with the line raised by `shift` at both moments.
     pub(crate) fn raised(self, shift: i32) -> Succession
         requires { ⌜ moment-in-range (self .first) ≡ true ⌝ ∗ ⌜ shift-in-range shift ≡ true ⌝ }
-        ensures { λ r. ⌜ r ≡ raised-succession shift self ⌝ }
+        ensures answer { λ r. ⌜ r ≡ raised-succession shift self ⌝ }
+        ensures second { λ _. ⌜ second-moment (raised-succession shift self) ≡ raised shift (second-moment self) ⌝ }
     {
         Succession {
             first: self.first.raised(shift),
