@@ -24,6 +24,7 @@ mod tests {
     use crate::moments::Succession;
     use crate::moments::Voice;
     use crate::refusal::Refusal;
+    use crate::refusal::RefusalDebug;
     use crate::strict::Strict;
     use crate::strict::StrictBook;
     use crate::vertical::Vertical;

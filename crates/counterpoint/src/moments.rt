@@ -11,14 +11,18 @@ use crate::interval::is_shift_in_range;
 /// How a voice sounds: struck anew, or held over from the moment before.
 #[derive(Clone, Copy)]
 pub enum Voice {
+    /// It begins to sound here.
     Struck,
+    /// It sounds on from the moment before.
     Held,
 }
 
 /// Whether a moment falls on a strong place or on a weak one.
 #[derive(Clone, Copy)]
 pub enum Accent {
+    /// The place is accented.
     Strong,
+    /// The place is not.
     Weak,
 }
 
