@@ -1,5 +1,6 @@
 // A blank theme, and what a theme holds. Knows nothing of pages.
 ghost use mathlib.Core.Path.{_≡_};
+ghost use Prim.Native.Nat.{_≤_};
 ghost use lib.ListN.{length};
 ghost use Rattle.std.specs.shelf.Maps.{nth};
 ghost use Rattle.std.specs.Vec.{made};
@@ -24,7 +25,8 @@ impl Theme {
 
     /// The number of places, 0 where no page has been read.
     pub fn len(&self) -> usize
-        ensures { λ r. ⌜ r ≡ length (held (now (self .entry)) .places) ⌝ }
+        ensures value { λ r. ⌜ r ≡ length (held (now (self .entry)) .places) ⌝ }
+        ensures few { λ r. ⌜ r ≤ 64 ⌝ }
     {
         self.places.len()
     }
