@@ -1,3 +1,4 @@
+pub mod Cells
 pub mod Refusals
 pub mod Plain
 pub mod Held
