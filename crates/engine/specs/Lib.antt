@@ -1,0 +1,5 @@
+pub mod Answers
+pub mod Lines
+pub mod Tables
+pub mod Weights
+pub mod Words

@@ -1,0 +1,60 @@
+// Filling the store for one start cell: what all ways on from each place and cell come to.
+// Knows nothing of why a hop is let through, and of measures only their laws.
+ghost use denote.Ref.{name};
+ghost use lib.ListN.{length};
+ghost use mathlib.Core.Path.{_≡_};
+ghost use Prim.Native.Nat.{_+_, _-_, _*_, _≤_, _<_};
+ghost use Rattle.engine.specs.Lines.{leap};
+ghost use Rattle.engine.specs.Tables.{Filled, Kept, rest, round, sum, through};
+ghost use Rattle.engine.specs.Words.{said};
+use crate::passage::Passage;
+use crate::store::Store;
+use crate::verdicts::CELLS;
+use crate::verdicts::Verdicts;
+use crate::verdicts::VerdictsPassage;
+use measure::algebra::Measure;
+
+/// How far the keys of two cells are apart.
+pub(crate) fn step_size(cell: usize, next: usize) -> u8
+    requires { ⌜ cell < 48 ⌝ ∗ ⌜ next < 48 ⌝ }
+    ensures { λ r. ⌜ r ≡ leap cell next ⌝ }
+{
+    (cell / 2).abs_diff(next / 2) as u8
+}
+
+/// All ways on from a cell that is not at the last place, by the place after it.
+fn onward<M: Measure>(store: &Store<'_, M>, verdicts: &Verdicts, place: usize, cell: usize) -> M
+    requires { ⌜ place < 63 ⌝ ∗ ⌜ cell < 48 ⌝ ∗ ⌜ 48 * (place + 2) ≤ length (now (now store .cells)) ⌝ }
+    ensures { λ r. ⌜ r ≡ sum ring (through ring (said (now (verdicts .entry) .words)) (now (now (store .entry) .cells)) place cell) 48 ⌝ }
+{
+    let mut total = M::nothing();
+    for next in 0..CELLS {
+        if verdicts.may(place, cell, next) {
+            let after = store.get(CELLS * (place + 1) + next);
+            total = total.join(M::step(step_size(cell, next)).chain(after));
+        }
+    }
+    total
+}
+
+/// All ways on from a cell, the places after it being filled.
+fn value_of<M: Measure>(
+    store: &Store<'_, M>,
+    verdicts: &Verdicts,
+    goal: usize,
+    n: usize,
+    place: usize,
+    cell: usize,
+) -> M
+    requires bounds { ⌜ place < n ⌝ ∗ ⌜ n ≤ 64 ⌝ ∗ ⌜ cell < 48 ⌝ ∗ ⌜ goal < 48 ⌝ ∗ ⌜ 48 * n ≤ length (now (now store .cells)) ⌝ }
+    requires filled { ⌜ Filled ring (said (now verdicts .words)) goal n (place + 1) (now (now store .cells)) ⌝ }
+    ensures { λ r. ⌜ r ≡ rest ring (said (now (verdicts .entry) .words)) goal (n - 1 - place) place cell ⌝ }
+{
+    if place + 1 < n {
+        onward(store, verdicts, place, cell)
+    } else if verdicts.may(place, cell, goal) {
+        M::step(step_size(cell, goal))
+    } else {
+        M::nothing()
+    }
+}

@@ -1,0 +1,8 @@
+// Closed walks over cells: weighed, traced and counted over any measure.
+// Knows cells and places, and nothing of why one cell may follow another.
+
+mod fill;
+pub mod passage;
+pub mod store;
+pub mod unfit;
+pub mod verdicts;
