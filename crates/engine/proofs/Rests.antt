@@ -50,3 +50,14 @@ module _ {M : Type 0} (R : Ring M) where
   pub rest-through : (way : Way) (goal n t c : ℕ) (cells : List M) → t + 1 < n → Filled R way goal n (t + 1) cells → sum R (through R way cells t c) 48 ≡ rest R way goal (n - 1 - t) t c
   rest-through way goal n t c cells h filled =
       sum-cong (through R way cells t c) _ 48 (λ d l. ap (R .chain (crossing R way t c d)) (filled (t + 1) (omega arith) h d l)) ∙ sym (rest-onward way goal n t c h)
+
+  -- one cell more of the next place, let through or not
+  pub sum-open : (way : Way) (cells : List M) (t c d : ℕ) → way t c d ≡ true → sum R (through R way cells t c) (d + 1) ≡ R .join (sum R (through R way cells t c) d) (R .chain (R .step (leap c d)) (getD cells (48 * (t + 1) + d) (R .none)))
+  sum-open way cells t c d h =
+      sum-more (through R way cells t c) d ∙ ap (λ x. R .join (sum R (through R way cells t c) d) (R .chain x (getD cells (48 * (t + 1) + d) (R .none)))) (crossing-open way t c d h)
+
+  pub sum-shut : (way : Way) (cells : List M) (t c d : ℕ) → way t c d ≡ false → sum R (through R way cells t c) (d + 1) ≡ sum R (through R way cells t c) d
+  sum-shut way cells t c d h =
+      let before = sum R (through R way cells t c) d in
+      let after = getD cells (48 * (t + 1) + d) (R .none) in
+      sum-more (through R way cells t c) d ∙ ap (λ x. R .join before (R .chain x after)) (crossing-shut way t c d h) ∙ ap (R .join before) (R .none-chain after) ∙ none-join before

@@ -58,3 +58,56 @@ fn value_of<M: Measure>(
         M::nothing()
     }
 }
+
+/// Fills a place, the places after it being filled.
+fn fill_place<M: Measure>(
+    store: &mut Store<'_, M>,
+    verdicts: &Verdicts,
+    goal: usize,
+    n: usize,
+    place: usize,
+)
+    requires bounds { ⌜ place < n ⌝ ∗ ⌜ n ≤ 64 ⌝ ∗ ⌜ goal < 48 ⌝ ∗ ⌜ 48 * n ≤ length (now (now store .cells)) ⌝ }
+    requires filled { ⌜ Filled ring (said (now verdicts .words)) goal n (place + 1) (now (now store .cells)) ⌝ }
+    ensures lender { λ _. ⌜ name (now (store .exit) .cells) ≡ name (now (store .entry) .cells) ⌝ }
+    ensures filled { λ _. ⌜ Filled ring (said (now (verdicts .entry) .words)) goal n place (now (now (store .exit) .cells)) ⌝ }
+    ensures kept { λ _. ⌜ Kept n (now (now (store .entry) .cells)) (now (now (store .exit) .cells)) ⌝ }
+{
+    for cell in 0..CELLS {
+        let value = value_of(store, verdicts, goal, n, place, cell);
+        store.put(CELLS * place + cell, value);
+    }
+}
+
+/// Fills all places for a start cell, from the last one back, and gives what its lines come to.
+pub(crate) fn weigh_from<M: Measure>(
+    store: &mut Store<'_, M>,
+    verdicts: &Verdicts,
+    start: usize,
+    n: usize,
+) -> M
+    requires bounds { ⌜ 0 < n ⌝ ∗ ⌜ n ≤ 64 ⌝ ∗ ⌜ start < 48 ⌝ ∗ ⌜ 48 * n ≤ length (now (now store .cells)) ⌝ }
+    ensures lender { λ _. ⌜ name (now (store .exit) .cells) ≡ name (now (store .entry) .cells) ⌝ }
+    ensures filled { λ _. ⌜ Filled ring (said (now (verdicts .entry) .words)) start n 0 (now (now (store .exit) .cells)) ⌝ }
+    ensures kept { λ _. ⌜ Kept n (now (now (store .entry) .cells)) (now (now (store .exit) .cells)) ⌝ }
+    ensures value { λ r. ⌜ r ≡ rest ring (said (now (verdicts .entry) .words)) start (n - 1) 0 start ⌝ }
+{
+    for place in (0..n).rev() {
+        fill_place(store, verdicts, start, n, place);
+    }
+    store.get(start)
+}
+
+/// What all closed lines that are let through come to.
+pub(crate) fn weigh_all<M: Measure>(store: &mut Store<'_, M>, verdicts: &Verdicts, n: usize) -> M
+    requires bounds { ⌜ 0 < n ⌝ ∗ ⌜ n ≤ 64 ⌝ ∗ ⌜ 48 * n ≤ length (now (now store .cells)) ⌝ }
+    ensures lender { λ _. ⌜ name (now (store .exit) .cells) ≡ name (now (store .entry) .cells) ⌝ }
+    ensures kept { λ _. ⌜ Kept n (now (now (store .entry) .cells)) (now (now (store .exit) .cells)) ⌝ }
+    ensures value { λ r. ⌜ r ≡ round ring (said (now (verdicts .entry) .words)) n ⌝ }
+{
+    let mut total = M::nothing();
+    for start in 0..CELLS {
+        total = total.join(weigh_from(store, verdicts, start, n));
+    }
+    total
+}

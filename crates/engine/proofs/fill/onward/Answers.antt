@@ -1,8 +1,6 @@
-use mathlib.Core.Path.{_≡_, sym, _∙_, ap}
-use lib.ListN.{getD}
-use Rattle.engine.proofs.Rests.{crossing-open, crossing-shut, none-join, sum-more, sum-none}
-use Rattle.engine.specs.Tables.{through}
+use mathlib.Core.Path.{sym, _∙_}
 use Rattle.engine.specs.Words.{said}
+use Rattle.engine.proofs.Rests.{sum-none, sum-open, sum-shut}
 use Rattle.engine.proofs.fill.onward.Needs as need
 use Rattle.engine.proofs.fill.onward.Needs.{else-may, then-may}
 
@@ -13,13 +11,13 @@ pub loop-next-again : need.loop-next-again
 loop-next-again g c =
     let R = g .M·Measure .ring in
     let way = said (c .args .verdicts .now .words) in
-    let f = through R way (c .args .store .now .cells .now) (c .args .place) (c .args .cell) in
-    let more = sum-more R f (c .loop-next .next) in
+    let cells = c .args .store .now .cells .now in
     elim (c .if-may .came) [
       then-may w ↦
-        let open = crossing-open R way (c .args .place) (c .args .cell) (c .loop-next .next) in
-        ?
+        let more = sum-open R way cells (c .args .place) (c .args .cell) (c .loop-next .next) (sym (c .may .ensures) ∙ w .if-may .taken) in
+        let after = w .get-after .ensures (R .none) in
+        cc
     | else-may w ↦
-        let shut = crossing-shut R way (c .args .place) (c .args .cell) (c .loop-next .next) in
-        ?
+        let more = sum-shut R way cells (c .args .place) (c .args .cell) (c .loop-next .next) (sym (c .may .ensures) ∙ w .if-may .left) in
+        cc
     ]
