@@ -1,3 +1,5 @@
 pub mod Fillings
+pub mod Lists
 pub mod Rests
+pub mod Rosters
 pub mod Shifts
