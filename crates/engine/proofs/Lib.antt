@@ -3,3 +3,4 @@ pub mod Lists
 pub mod Rests
 pub mod Rosters
 pub mod Shifts
+pub mod Totals

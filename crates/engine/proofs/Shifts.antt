@@ -73,3 +73,9 @@ said-upto words way n words-say t c d = ⊎-elim within outside (cases-bool (ins
         let cell : (48 * t + c) % 48 ≡ c = omega arith in
         let here = words-say (48 * t + c) d (omega arith) (low .2) in
         subst⁻¹ Says h (here ∙ ap₂ (λ a b. ltb a n && way a b d) place cell ∙ sym (ap (λ b. b && way t c d) (and-true (ltb t n))))
+
+-- a table made from a way says at its places what the way says
+pub said-agrees : (words : List ℕ) (way : Way) (n : ℕ) → n ≤ 64 → ((t c d : ℕ) → said words t c d ≡ ((ltb t n && inside t c d) && way t c d)) → (t c d : ℕ) → t < n → c < 48 → d < 48 → said words t c d ≡ way t c d
+said-agrees words way n most says t c d ht hc hd =
+    let within = inside-from t c d (omega arith) hc hd in
+    says t c d ∙ ap₂ (λ a b. (a && b) && way t c d) (lt-ltb t n ht) within

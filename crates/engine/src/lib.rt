@@ -2,7 +2,9 @@
 // Knows cells and places, and nothing of why one cell may follow another.
 
 mod fill;
+mod fit;
 pub mod passage;
 pub mod store;
 pub mod unfit;
 pub mod verdicts;
+pub mod weighing;

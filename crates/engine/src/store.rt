@@ -6,6 +6,7 @@ ghost use mathlib.Core.Path.{_≡_};
 ghost use Prim.Native.Nat.{_<_};
 
 /// One value for each place and cell, in a slice lent by the caller.
+#[derive(Drop)]
 pub struct Store<'a, M> {
     pub(crate) cells: &'a mut [M],
 }
