@@ -1,6 +1,9 @@
 pub mod Fillings
+pub mod Firsts
 pub mod Lists
+pub mod Picks
 pub mod Rests
 pub mod Rosters
 pub mod Shifts
 pub mod Totals
+pub mod Traces

@@ -4,9 +4,10 @@ use lib.ListN.{length}
 use mathlib.Core.Bool.{Bool, true, false, cond, _&&_}
 use mathlib.Core.List.{List, [], _∷_, _++_, map}
 use mathlib.Core.Path.{_≡_, refl, ap, ap₂, sym, fun-ext, _∙_}
+use native.Mathlib.Numerals.{add-one}
 use native.Mathlib.Omega.{arith}
 use Rattle.std.proofs.shelf.Elements.{all-append, all-push, all-weaker, kept-by-append}
-use Rattle.std.proofs.shelf.Lists.{append-assoc, append-nil, map-append}
+use Rattle.std.proofs.shelf.Lists.{append-assoc, append-nil, length-append, map-append}
 use Rattle.std.specs.shelf.Lists.{All, joined as spread, kept-by}
 use Rattle.engine.specs.Lines.{every, upto}
 
@@ -80,3 +81,7 @@ all-upto (suc n) =
 pub upto-front : (n : ℕ) → upto (suc n) ≡ 0 ∷ map suc (upto n)
 upto-front zero = refl
 upto-front (suc n) = ap (λ xs. xs ++ suc n ∷ []) (upto-front n) ∙ ap (λ xs. 0 ∷ xs) (sym (map-append suc (upto n) (n ∷ [])))
+
+pub length-upto : (n : ℕ) → length (upto n) ≡ n
+length-upto zero = refl
+length-upto (suc n) = length-append (upto n) (n ∷ []) ∙ ap (λ m. m + 1) (length-upto n) ∙ add-one n

@@ -11,6 +11,7 @@ use Rattle.std.proofs.shelf.Elements.{all-getD, all-kept-by, all-map, all-weake
 use Rattle.std.proofs.shelf.Lists.{drop-drop}
 use Rattle.std.specs.shelf.Lists.{All, joined as spread, kept-by}
 use Rattle.engine.specs.Lines.{Hop, Way, cell-at, every, every-line, goes-round, hops, roster, upto}
+use Rattle.engine.specs.Tails.{begun-by, tails}
 use Rattle.engine.proofs.Lists.{all-spread, all-upto, every-cong, every-map, kept-by-and, kept-by-cong, kept-by-map, kept-by-spread, map-map, spread-cong, upto-front}
 
 -- a line of n cells
@@ -80,12 +81,6 @@ goes-on way goal t c ds = every (λ h. way (h .0) (h .1) (h .2)) (hops-on goal t
 pub goes-round-on : (way : Way) (n c : ℕ) (cs : List ℕ) → suc (length cs) ≡ n → goes-round way n (c ∷ cs) ≡ goes-on way c 0 c cs
 goes-round-on way n c cs e = ap (every (λ h. way (h .0) (h .1) (h .2))) (hops-line n c cs e)
 
--- the lists of k cells by which it goes on, in order
-unfoldable pub tails : Way → ℕ → ℕ → ℕ → ℕ → List (List ℕ)
-tails way goal zero t c = cond (way t c goal) ([] ∷ []) []
-tails way goal (suc k) t c =
-    spread (λ d. cond (way t c d) (map (λ ds. d ∷ ds) (tails way goal k (t + 1) d)) []) (upto 48)
-
 map-cond : {X Y : Type 0} (b : Bool) (f : X → Y) (xs : List X) → map f (cond b xs []) ≡ cond b (map f xs) []
 map-cond true f xs = refl
 map-cond false f xs = refl
@@ -101,10 +96,6 @@ kept-tails way goal (suc k) t c =
         ∙ map-cond (way t c d) (λ ds. d ∷ ds) (kept-by (goes-on way goal (t + 1) d) (every-line k))
         ∙ ap (λ ls. cond (way t c d) (map (λ ds. d ∷ ds) ls) []) (kept-tails way goal k (t + 1) d))
 
--- the lines of the roster that begin with a cell
-abbrev pub begun-by : Way → ℕ → ℕ → List (List ℕ)
-begun-by way k c = map (λ ds. c ∷ ds) (tails way c k 0 c)
-
 pub roster-tails : (way : Way) (k : ℕ) → roster way (suc k) ≡ spread (begun-by way k) (upto 48)
 roster-tails way k =
     kept-by-spread (goes-round way (suc k)) (λ c. map (λ ds. c ∷ ds) (every-line k)) (upto 48)
@@ -112,15 +103,17 @@ roster-tails way k =
         kept-by-map (goes-round way (suc k)) (λ ds. c ∷ ds) (every-line k)
         ∙ ap (map (λ ds. c ∷ ds)) (kept-by-cong _ _ (every-line k) (all-weaker (Sound k) _ (λ ds s. goes-round-on way (suc k) c ds (ap suc (s .0))) (every-line k) (every-line-sound k)) ∙ kept-tails way c k 0 c))
 
+-- the cells of a line are cells
+pub cell-small : (n : ℕ) (line : List ℕ) → 0 < n → Sound n line → (t : ℕ) → cell-at n line t < 48
+cell-small n line some s t = all-getD (λ c. c < 48) line (t % n) 0 (subst (λ m. t % n < m) (sym (s .0)) (mod-lt t some)) (s .1)
+
 -- ways that agree at the places and cells of lines have the same roster
 pub roster-cong : (way other : Way) (n : ℕ) → 0 < n → ((t c d : ℕ) → t < n → c < 48 → d < 48 → way t c d ≡ other t c d) → roster way n ≡ roster other n
 roster-cong way other n some same =
     kept-by-cong (goes-round way n) (goes-round other n) (every-line n) (all-weaker (Sound n) _ agrees (every-line n) (every-line-sound n))
   where
-    cell : (line : List ℕ) → Sound n line → (t : ℕ) → cell-at n line t < 48
-    cell line s t = all-getD (λ c. c < 48) line (t % n) 0 (subst (λ m. t % n < m) (sym (s .0)) (mod-lt t some)) (s .1)
     agrees : (line : List ℕ) → Sound n line → goes-round way n line ≡ goes-round other n line
     agrees line s =
         every-map (λ h. way (h .0) (h .1) (h .2)) (λ t. (t, cell-at n line t, cell-at n line (t + 1))) (upto n)
-        ∙ every-cong _ _ (upto n) (all-weaker (λ t. t < n) _ (λ t h. same t (cell-at n line t) (cell-at n line (t + 1)) h (cell line s t) (cell line s (t + 1))) (upto n) (all-upto n))
+        ∙ every-cong _ _ (upto n) (all-weaker (λ t. t < n) _ (λ t h. same t (cell-at n line t) (cell-at n line (t + 1)) h (cell-small n line some s t) (cell-small n line some s (t + 1))) (upto n) (all-upto n))
         ∙ sym (every-map (λ h. other (h .0) (h .1) (h .2)) (λ t. (t, cell-at n line t, cell-at n line (t + 1))) (upto n))
