@@ -1,13 +1,14 @@
 -- The first line of the total weight, found place by place. Assumes nothing.
 use Prim.Native.Nat.{ℕ, zero, suc, _+_, _-_, _≤_, _<_}
-use lib.ListN.{length}
+use lib.ListN.{length, set, take}
 use mathlib.Core.Bool.{Bool, true, false, cond, _&&_}
 use mathlib.Core.List.{List, [], _∷_, _++_, map}
 use mathlib.Core.Logic.{⊎-elim}
 use mathlib.Core.Path.{_≡_, refl, ap, ap₂, sym, subst, fun-ext, _∙_}
 use native.Mathlib.Omega.{arith}
 use Rattle.std.proofs.shelf.Elements.{all-weaker}
-use Rattle.std.proofs.shelf.Tests.{and-parts, both-ways, cases-bool, false≢true}
+use Rattle.std.proofs.shelf.Lists.{append-assoc, append-nil, take-more-set}
+use Rattle.std.proofs.shelf.Tests.{and-parts, both-ways, cases-bool, cases-lt}
 use Rattle.std.specs.Options.{isSome, mapped}
 use Rattle.std.specs.declared.option.Option.{Option}
 use Rattle.std.specs.declared.option.Option.the-variants.{None, Some}
@@ -17,7 +18,7 @@ use Rattle.engine.specs.Lines.{Way, leap, roster, upto}
 use Rattle.engine.specs.Tables.{crossing, rest, round, sum}
 use Rattle.engine.specs.Tails.{attains, begun-by, best-from, line-worth, tails, worth}
 use Rattle.engine.specs.Weights.{first-best, first-with, joined-weight, steps, weight}
-use Rattle.engine.proofs.Firsts.{first-with-cong, first-with-map, first-with-spread, isSome-mapped, none-from}
+use Rattle.engine.proofs.Firsts.{first-with-cong, first-with-map, first-with-spread, isSome-mapped, mapped-mapped, none-from}
 use Rattle.engine.proofs.Lists.{map-map}
 use Rattle.engine.proofs.Picks.{attained, join-same, picks-from, same-from-picks, sum-attained, sum-under}
 use Rattle.engine.proofs.Rests.{crossing-open, crossing-shut, none-join}
@@ -200,3 +201,47 @@ module _ {M : Type 0} (R : Ring M) (picks : M → M → Bool) (either : (x y : M
         let gone : R .none ≡ total = same-from-picks R picks either former (R .none) total (R .join-none total) h in
         let empty = none-lines n (roster way n) least most (roster-sound way n) (roster-round R way n least ∙ sym is ∙ sym gone) in
         ap (first-best R picks n) empty
+
+-- a trace that has come to the cell c at place t: the line so far, and what is left, are the first best line
+abbrev pub Traced : {M : Type 0} → Ring M → (M → M → Bool) → Way → ℕ → ℕ → M → ℕ → ℕ → M → List ℕ → Type 0
+Traced R picks way goal n total t c p line =
+    (R .chain p (rest R way goal (n - 1 - t) t c) ≡ total) × (best-from R picks way (n - 1) total goal ≡ mapped (λ ds. take (t + 1) line ++ ds) (first-with (λ ds. picks (R .chain p (worth R goal c ds)) total) (tails way goal (n - 1 - t) t c)))
+
+module _ {M : Type 0} (R : Ring M) (picks : M → M → Bool) (either : (x y : M) → R .join x y ≡ cond (picks x y) x y) (former : (x y : M) → R .join x y ≡ x → picks x y ≡ true) (way : Way) (goal n : ℕ) (total : M) (some : picks (R .none) total ≡ false) where
+  pub traced-start : (line : List ℕ) → 0 < length line → rest R way goal (n - 1) 0 goal ≡ total → Traced R picks way goal n total 0 goal (R .one) (set line 0 goal)
+  traced-start line room whole =
+      let left : n - 1 ≡ n - 1 - 0 = omega arith in
+      let front : take (0 + 1) (set line 0 goal) ≡ goal ∷ [] = take-more-set line 0 goal room in
+      (R .one-chain _ ∙ ap (λ k. rest R way goal k 0 goal) (sym left) ∙ whole,
+          best-from-tail R picks either former way (n - 1) goal total some ∙ ap₂ (λ xs k. mapped (λ ds. xs ++ ds) (best-tail R picks either former way goal total some k 0 goal (R .one))) (sym front) left)
+
+  -- the next cell is not past the last
+  pub next-small : (t c d : ℕ) (p : M) → t + 1 < n → d ≤ 48 → R .chain p (rest R way goal (n - 1 - t) t c) ≡ total → ((e : ℕ) → e < d → attains R picks way goal (n - 1 - (t + 1)) t c p total e ≡ false) → d < 48
+  next-small t c d p within most whole before =
+      let left : n - 1 - t ≡ suc (n - 1 - (t + 1)) = omega arith in
+      ⊎-elim (λ h. h)
+      (λ h. absurd (some-attains R picks either former way goal total some (n - 1 - (t + 1)) t c p (ap (λ k. R .chain p (rest R way goal k t c)) (sym left) ∙ whole) (λ e l. before e (omega arith))))
+      (cases-lt d 48)
+
+  pub traced-step : (t c d : ℕ) (p : M) (line : List ℕ) → t + 1 < n → n ≤ length line → d < 48 → Traced R picks way goal n total t c p line → ((e : ℕ) → e < d → attains R picks way goal (n - 1 - (t + 1)) t c p total e ≡ false) → attains R picks way goal (n - 1 - (t + 1)) t c p total d ≡ true → Traced R picks way goal n total (t + 1) d (R .chain p (R .step (leap c d))) (set line (t + 1) d)
+  traced-step t c d p line within room small traced before here =
+      let k = n - 1 - (t + 1) in
+      let left : n - 1 - t ≡ suc k = omega arith in
+      let whole : R .chain p (rest R way goal (suc k) t c) ≡ total = ap (λ j. R .chain p (rest R way goal j t c)) (sym left) ∙ traced .0 in
+      let next = best-tail R picks either former way goal total some k (t + 1) d (R .chain p (R .step (leap c d))) in
+      let front : take (t + 1 + 1) (set line (t + 1) d) ≡ take (t + 1) line ++ d ∷ [] = take-more-set line (t + 1) d (omega arith) in
+      (total-step R picks either former way goal total some k t c p whole d small here,
+          traced .1
+          ∙ ap (λ j. mapped (λ ds. take (t + 1) line ++ ds) (best-tail R picks either former way goal total some j t c p)) left
+          ∙ ap (mapped (λ ds. take (t + 1) line ++ ds)) (best-tail-step R picks either former way goal total some k t c p whole d small before here)
+          ∙ mapped-mapped (λ ds. take (t + 1) line ++ ds) (λ ds. d ∷ ds) next
+          ∙ ap (λ f. mapped f next) (fun-ext (λ ds. sym (ap (λ xs. xs ++ ds) front ∙ append-assoc (take (t + 1) line) (d ∷ []) ds))))
+
+  pub traced-end : (t c : ℕ) (p : M) (line : List ℕ) → t + 1 ≡ n → Traced R picks way goal n total t c p line → best-from R picks way (n - 1) total goal ≡ Some (take n line)
+  traced-end t c p line last traced =
+      let left : n - 1 - t ≡ 0 = omega arith in
+      let whole : R .chain p (rest R way goal 0 t c) ≡ total = ap (λ j. R .chain p (rest R way goal j t c)) (sym left) ∙ traced .0 in
+      traced .1
+      ∙ ap (λ j. mapped (λ ds. take (t + 1) line ++ ds) (best-tail R picks either former way goal total some j t c p)) left
+      ∙ ap (mapped (λ ds. take (t + 1) line ++ ds)) (best-tail-last R picks either former way goal total some t c p whole)
+      ∙ ap Some (append-nil (take (t + 1) line) ∙ ap (λ m. take m line) last)

@@ -5,6 +5,7 @@ mod fill;
 mod fit;
 pub mod passage;
 pub mod store;
+pub mod tracing;
 pub mod unfit;
 pub mod verdicts;
 pub mod weighing;
