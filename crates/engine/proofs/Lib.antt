@@ -1,3 +1,4 @@
+pub mod Buffers
 pub mod Fillings
 pub mod Firsts
 pub mod Lists

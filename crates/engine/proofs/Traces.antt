@@ -245,3 +245,8 @@ module _ {M : Type 0} (R : Ring M) (picks : M → M → Bool) (either : (x y : M
       ∙ ap (λ j. mapped (λ ds. take (t + 1) line ++ ds) (best-tail R picks either former way goal total some j t c p)) left
       ∙ ap (mapped (λ ds. take (t + 1) line ++ ds)) (best-tail-last R picks either former way goal total some t c p whole)
       ∙ ap Some (append-nil (take (t + 1) line) ∙ ap (λ m. take m line) last)
+
+-- the start cell is not past the last
+pub start-small : {M : Type 0} (R : Ring M) (picks : M → M → Bool) (either : (x y : M) → R .join x y ≡ cond (picks x y) x y) (former : (x y : M) → R .join x y ≡ x → picks x y ≡ true) (way : Way) (n : ℕ) (total : M) → 0 < n → total ≡ round R way n → picks (R .none) total ≡ false → (start : ℕ) → start ≤ 48 → ((c : ℕ) → c < start → picks (rest R way c (n - 1) 0 c) total ≡ false) → start < 48
+start-small R picks either former way n total least is some start most before =
+    ⊎-elim (λ h. h) (λ h. absurd (some-start R picks either former way n total least is some (λ c l. before c (omega arith)))) (cases-lt start 48)
