@@ -2,6 +2,7 @@ pub mod Buffers
 pub mod Fillings
 pub mod Firsts
 pub mod Lists
+pub mod Numberings
 pub mod Picks
 pub mod Rests
 pub mod Rosters

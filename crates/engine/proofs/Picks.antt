@@ -66,16 +66,20 @@ module _ {M : Type 0} (R : Ring M) (picks : M → M → Bool) (either : (x y : M
     where
       under-x : R .join x total ≡ total
       under-x = under-left x y total under
+
       under-y : R .join y total ≡ total
       under-y = under-right x y total under
+
       first : picks x total ≡ true → picks (R .join x y) total ≡ (picks x total || picks y total)
       first h =
           let is = same-from-picks x total under-x h in
           picks-from (R .join x y) total (ap (λ z. R .join z y) is ∙ R .join-comm total y ∙ under-y) ∙ sym (ap (λ b. b || picks y total) h)
+
       second : picks x total ≡ false → picks y total ≡ true → picks (R .join x y) total ≡ (picks x total || picks y total)
       second no-x h =
           let is = same-from-picks y total under-y h in
           picks-from (R .join x y) total (ap (R .join x) is ∙ under-x) ∙ sym (ap₂ _||_ no-x h)
+
       neither : picks x total ≡ false → picks y total ≡ false → picks (R .join x y) total ≡ (picks x total || picks y total)
       neither no-x no-y =
           ⊎-elim (λ e. ap (λ z. picks z total) e ∙ no-x) (λ e. ap (λ z. picks z total) e ∙ no-y) (cases-cond (picks x y) x y (R .join x y) (either x y)) ∙ sym (ap₂ _||_ no-x no-y)

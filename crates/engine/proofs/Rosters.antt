@@ -91,17 +91,17 @@ kept-tails way goal zero t c = ap (λ b. cond b ([] ∷ []) []) (and-true (way t
 kept-tails way goal (suc k) t c =
     kept-by-spread (goes-on way goal t c) (λ d. map (λ ds. d ∷ ds) (every-line k)) (upto 48)
     ∙ spread-cong _ _ (upto 48) (λ d.
-        kept-by-map (goes-on way goal t c) (λ ds. d ∷ ds) (every-line k)
-        ∙ ap (map (λ ds. d ∷ ds)) (kept-by-and (way t c d) (goes-on way goal (t + 1) d) (every-line k))
-        ∙ map-cond (way t c d) (λ ds. d ∷ ds) (kept-by (goes-on way goal (t + 1) d) (every-line k))
-        ∙ ap (λ ls. cond (way t c d) (map (λ ds. d ∷ ds) ls) []) (kept-tails way goal k (t + 1) d))
+    kept-by-map (goes-on way goal t c) (λ ds. d ∷ ds) (every-line k)
+    ∙ ap (map (λ ds. d ∷ ds)) (kept-by-and (way t c d) (goes-on way goal (t + 1) d) (every-line k))
+    ∙ map-cond (way t c d) (λ ds. d ∷ ds) (kept-by (goes-on way goal (t + 1) d) (every-line k))
+    ∙ ap (λ ls. cond (way t c d) (map (λ ds. d ∷ ds) ls) []) (kept-tails way goal k (t + 1) d))
 
 pub roster-tails : (way : Way) (k : ℕ) → roster way (suc k) ≡ spread (begun-by way k) (upto 48)
 roster-tails way k =
     kept-by-spread (goes-round way (suc k)) (λ c. map (λ ds. c ∷ ds) (every-line k)) (upto 48)
     ∙ spread-cong _ _ (upto 48) (λ c.
-        kept-by-map (goes-round way (suc k)) (λ ds. c ∷ ds) (every-line k)
-        ∙ ap (map (λ ds. c ∷ ds)) (kept-by-cong _ _ (every-line k) (all-weaker (Sound k) _ (λ ds s. goes-round-on way (suc k) c ds (ap suc (s .0))) (every-line k) (every-line-sound k)) ∙ kept-tails way c k 0 c))
+    kept-by-map (goes-round way (suc k)) (λ ds. c ∷ ds) (every-line k)
+    ∙ ap (map (λ ds. c ∷ ds)) (kept-by-cong _ _ (every-line k) (all-weaker (Sound k) _ (λ ds s. goes-round-on way (suc k) c ds (ap suc (s .0))) (every-line k) (every-line-sound k)) ∙ kept-tails way c k 0 c))
 
 -- the cells of a line are cells
 pub cell-small : (n : ℕ) (line : List ℕ) → 0 < n → Sound n line → (t : ℕ) → cell-at n line t < 48

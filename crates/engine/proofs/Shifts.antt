@@ -64,8 +64,10 @@ said-upto words way n words-say t c d = ⊎-elim within outside (cases-bool (ins
   where
     Says : Bool → Type 0
     Says b = (b && bit (getD words (48 * t + c) 0) d) ≡ ((ltb t n && b) && way t c d)
+
     outside : inside t c d ≡ false → said words t c d ≡ ((ltb t n && inside t c d) && way t c d)
     outside h = subst⁻¹ Says h (sym (ap (λ b. b && way t c d) (and-false (ltb t n))))
+
     within : inside t c d ≡ true → said words t c d ≡ ((ltb t n && inside t c d) && way t c d)
     within h =
         let low = inside-parts t c d h in

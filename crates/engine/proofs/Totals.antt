@@ -60,8 +60,8 @@ module _ {M : Type 0} (R : Ring M) where
   joined-tails way goal (suc k) t c =
       joined-spread (worth R goal c) (λ d. cond (way t c d) (map (λ ds. d ∷ ds) (tails way goal k (t + 1) d)) []) 48
       ∙ sum-cong R _ _ 48 (λ d h.
-          tails-through (way t c d) (R .step (leap c d)) d goal c (tails way goal k (t + 1) d) refl
-          ∙ ap (R .chain (crossing R way t c d)) (joined-tails way goal k (t + 1) d))
+      tails-through (way t c d) (R .step (leap c d)) d goal c (tails way goal k (t + 1) d) refl
+      ∙ ap (R .chain (crossing R way t c d)) (joined-tails way goal k (t + 1) d))
 
   pub weight-line : (n : ℕ) (line : List ℕ) → 0 < n → Sound n line → weight R n line ≡ line-worth R line
   weight-line n [] some s = absurd (let e : 0 ≡ n = s .0 in omega arith)
@@ -77,7 +77,7 @@ module _ {M : Type 0} (R : Ring M) where
       ap (λ ls. joined R (map (line-worth R) ls)) (roster-tails way k)
       ∙ joined-spread (line-worth R) (begun-by way k) 48
       ∙ sum-cong R _ _ 48 (λ c h.
-          ap (joined R) (map-map (line-worth R) (λ ds. c ∷ ds) (tails way c k 0 c)) ∙ joined-tails way c k 0 c ∙ ap (λ j. rest R way c j 0 c) left)
+      ap (joined R) (map-map (line-worth R) (λ ds. c ∷ ds) (tails way c k 0 c)) ∙ joined-tails way c k 0 c ∙ ap (λ j. rest R way c j 0 c) left)
 
   -- the lines of the roster together
   pub roster-round : (way : Way) (n : ℕ) → 0 < n → joined-weight R n (roster way n) ≡ round R way n
@@ -93,4 +93,4 @@ pub steps-small : (n : ℕ) (line : List ℕ) → 0 < n → Sound n line → All
 steps-small n line some s =
     all-map (λ x. x ≤ 23) (λ (h : Hop). leap (h .1) (h .2)) (hops n line)
     (all-map (λ (h : Hop). leap (h .1) (h .2) ≤ 23) (λ t. (t, cell-at n line t, cell-at n line (t + 1))) (upto n)
-      (all-weaker (λ t. t < n) _ (λ t h. leap-small _ _ (cell-small n line some s t) (cell-small n line some s (t + 1))) (upto n) (all-upto n)))
+    (all-weaker (λ t. t < n) _ (λ t h. leap-small _ _ (cell-small n line some s t) (cell-small n line some s (t + 1))) (upto n) (all-upto n)))

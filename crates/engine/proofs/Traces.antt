@@ -77,6 +77,7 @@ module _ {M : Type 0} (R : Ring M) (picks : M → M → Bool) (either : (x y : M
         opened d l e h =
             both-ways (attains R picks way goal k t c p total d) (nowhere d l)
             (ap₂ _&&_ h (picks-from R picks either former _ total (sym (part-open d h) ∙ e)))
+
         shut : (d : ℕ) → part d ≡ total → way t c d ≡ false → ⊥
         shut d e h = not-none (sym (part-shut d h) ∙ e)
 
@@ -129,6 +130,7 @@ module _ {M : Type 0} (R : Ring M) (picks : M → M → Bool) (either : (x y : M
       opened h =
           ap (λ b. first-with (λ ds. picks (R .chain p (worth R goal c ds)) total) (cond b ([] ∷ []) [])) h
           ∙ ap (λ b. cond b (Some []) None) (picks-from R picks either former _ total (ap (R .chain p) (sym (crossing-open R way t c goal h)) ∙ whole))
+
       shut : way t c goal ≡ false → best-tail 0 t c p ≡ Some []
       shut h = absurd (not-none (sym (ap (R .chain p) (crossing-shut R way t c goal h) ∙ R .chain-none p) ∙ whole))
 
@@ -175,7 +177,7 @@ module _ {M : Type 0} (R : Ring M) (picks : M → M → Bool) (either : (x y : M
     start-best start l before here =
         best-weights ∙ ap (first-with (λ line. picks (line-worth R line) total)) (roster-tails way k)
         ∙ first-with-spread (λ line. picks (line-worth R line) total) (begun-by way k) 48 start l
-          (λ c m. none-from (best-from R picks way k total c) (isSome-from c (omega arith) ∙ before c m)) (isSome-from start l ∙ here)
+        (λ c m. none-from (best-from R picks way k total c) (isSome-from c (omega arith) ∙ before c m)) (isSome-from start l ∙ here)
 
   -- the first line begins with the first cell whose lines come to the total
   pub first-best-from : (n : ℕ) (total : M) → 0 < n → total ≡ round R way n → picks (R .none) total ≡ false → (start : ℕ) → start < 48 → ((c : ℕ) → c < start → picks (rest R way c (n - 1) 0 c) total ≡ false) → picks (rest R way start (n - 1) 0 start) total ≡ true → first-best R picks n (roster way n) ≡ best-from R picks way (n - 1) total start
@@ -211,9 +213,10 @@ module _ {M : Type 0} (R : Ring M) (picks : M → M → Bool) (either : (x y : M
   pub traced-start : (line : List ℕ) → 0 < length line → rest R way goal (n - 1) 0 goal ≡ total → Traced R picks way goal n total 0 goal (R .one) (set line 0 goal)
   traced-start line room whole =
       let left : n - 1 ≡ n - 1 - 0 = omega arith in
-      let front : take (0 + 1) (set line 0 goal) ≡ goal ∷ [] = take-more-set line 0 goal room in
-      (R .one-chain _ ∙ ap (λ k. rest R way goal k 0 goal) (sym left) ∙ whole,
-          best-from-tail R picks either former way (n - 1) goal total some ∙ ap₂ (λ xs k. mapped (λ ds. xs ++ ds) (best-tail R picks either former way goal total some k 0 goal (R .one))) (sym front) left)
+      let front : take (0 + 1) (set line 0 goal) ≡ goal ∷ [] = take-more-set line 0 goal room in (
+        R .one-chain _ ∙ ap (λ k. rest R way goal k 0 goal) (sym left) ∙ whole,
+        best-from-tail R picks either former way (n - 1) goal total some ∙ ap₂ (λ xs k. mapped (λ ds. xs ++ ds) (best-tail R picks either former way goal total some k 0 goal (R .one))) (sym front) left,
+      )
 
   -- the next cell is not past the last
   pub next-small : (t c d : ℕ) (p : M) → t + 1 < n → d ≤ 48 → R .chain p (rest R way goal (n - 1 - t) t c) ≡ total → ((e : ℕ) → e < d → attains R picks way goal (n - 1 - (t + 1)) t c p total e ≡ false) → d < 48
@@ -229,13 +232,14 @@ module _ {M : Type 0} (R : Ring M) (picks : M → M → Bool) (either : (x y : M
       let left : n - 1 - t ≡ suc k = omega arith in
       let whole : R .chain p (rest R way goal (suc k) t c) ≡ total = ap (λ j. R .chain p (rest R way goal j t c)) (sym left) ∙ traced .0 in
       let next = best-tail R picks either former way goal total some k (t + 1) d (R .chain p (R .step (leap c d))) in
-      let front : take (t + 1 + 1) (set line (t + 1) d) ≡ take (t + 1) line ++ d ∷ [] = take-more-set line (t + 1) d (omega arith) in
-      (total-step R picks either former way goal total some k t c p whole d small here,
-          traced .1
-          ∙ ap (λ j. mapped (λ ds. take (t + 1) line ++ ds) (best-tail R picks either former way goal total some j t c p)) left
-          ∙ ap (mapped (λ ds. take (t + 1) line ++ ds)) (best-tail-step R picks either former way goal total some k t c p whole d small before here)
-          ∙ mapped-mapped (λ ds. take (t + 1) line ++ ds) (λ ds. d ∷ ds) next
-          ∙ ap (λ f. mapped f next) (fun-ext (λ ds. sym (ap (λ xs. xs ++ ds) front ∙ append-assoc (take (t + 1) line) (d ∷ []) ds))))
+      let front : take (t + 1 + 1) (set line (t + 1) d) ≡ take (t + 1) line ++ d ∷ [] = take-more-set line (t + 1) d (omega arith) in (
+        total-step R picks either former way goal total some k t c p whole d small here,
+        traced .1
+            ∙ ap (λ j. mapped (λ ds. take (t + 1) line ++ ds) (best-tail R picks either former way goal total some j t c p)) left
+            ∙ ap (mapped (λ ds. take (t + 1) line ++ ds)) (best-tail-step R picks either former way goal total some k t c p whole d small before here)
+            ∙ mapped-mapped (λ ds. take (t + 1) line ++ ds) (λ ds. d ∷ ds) next
+            ∙ ap (λ f. mapped f next) (fun-ext (λ ds. sym (ap (λ xs. xs ++ ds) front ∙ append-assoc (take (t + 1) line) (d ∷ []) ds))),
+      )
 
   pub traced-end : (t c : ℕ) (p : M) (line : List ℕ) → t + 1 ≡ n → Traced R picks way goal n total t c p line → best-from R picks way (n - 1) total goal ≡ Some (take n line)
   traced-end t c p line last traced =

@@ -1,5 +1,6 @@
 -- Lines from some place on: by which cells they go on, and what these weigh. Assumes nothing.
 use Prim.Native.Nat.{ℕ, zero, suc, _+_}
+use lib.ListN.{length}
 use mathlib.Core.Bool.{Bool, cond, _&&_}
 use mathlib.Core.List.{List, [], _∷_, map}
 use Rattle.std.specs.declared.option.Option.{Option}
@@ -37,3 +38,11 @@ best-from R picks way k total start = first-with (λ line. picks (line-worth R l
 abbrev pub attains : {M : Type 0} → Ring M → (M → M → Bool) → Way → ℕ → ℕ → ℕ → ℕ → M → M → ℕ → Bool
 attains R picks way goal k t c p total d =
     way t c d && picks (R .chain (R .chain p (R .step (leap c d))) (rest R way goal k (t + 1) d)) total
+
+-- of the lists of k + 1 cells, those that go on by the cell d
+abbrev pub by-cell : Way → ℕ → ℕ → ℕ → ℕ → ℕ → List (List ℕ)
+by-cell way goal k t c d = cond (way t c d) (map (λ ds. d ∷ ds) (tails way goal k (t + 1) d)) []
+
+-- how many lists stand before those of d
+abbrev pub passed : (ℕ → List (List ℕ)) → ℕ → ℕ
+passed f d = length (spread f (upto d))

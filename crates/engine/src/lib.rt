@@ -4,6 +4,7 @@
 mod fill;
 mod fit;
 pub mod passage;
+pub mod picking;
 pub mod store;
 pub mod tracing;
 pub mod unfit;

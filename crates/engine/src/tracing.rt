@@ -56,7 +56,12 @@ fn next_best<M: Choosing>(
 }
 
 /// The first start cell whose lines come to the total, for which the store is then filled; 48 if there is none.
-fn best_start<M: Choosing>(store: &mut Store<'_, M>, verdicts: &Verdicts, n: usize, total: M) -> usize
+fn best_start<M: Choosing>(
+    store: &mut Store<'_, M>,
+    verdicts: &Verdicts,
+    n: usize,
+    total: M,
+) -> usize
     requires bounds { ⌜ 0 < n ⌝ ∗ ⌜ n ≤ 64 ⌝ ∗ ⌜ 48 * n ≤ length (now (now store .cells)) ⌝ }
     ensures lender { λ _. ⌜ name (now (store .exit) .cells) ≡ name (now (store .entry) .cells) ⌝ }
     ensures kept { λ _. ⌜ Kept n (now (now (store .entry) .cells)) (now (now (store .exit) .cells)) ⌝ }

@@ -13,11 +13,11 @@ loop-next-again g c =
     let way = said (c .args .verdicts .now .words) in
     let cells = c .args .store .now .cells .now in
     elim (c .if-may .came) [
-      then-may w ↦
-        let more = sum-open R way cells (c .args .place) (c .args .cell) (c .loop-next .next) (sym (c .may .ensures) ∙ w .if-may .taken) in
-        let after = w .get-after .ensures (R .none) in
-        cc
-    | else-may w ↦
-        let more = sum-shut R way cells (c .args .place) (c .args .cell) (c .loop-next .next) (sym (c .may .ensures) ∙ w .if-may .left) in
-        cc
+      | then-may w ↦
+          let more = sum-open R way cells (c .args .place) (c .args .cell) (c .loop-next .next) (sym (c .may .ensures) ∙ w .if-may .taken) in
+          let after = w .get-after .ensures (R .none) in
+          cc
+      | else-may w ↦
+          let more = sum-shut R way cells (c .args .place) (c .args .cell) (c .loop-next .next) (sym (c .may .ensures) ∙ w .if-may .left) in
+          cc
     ]

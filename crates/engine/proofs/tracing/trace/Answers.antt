@@ -19,9 +19,10 @@ loop-place-holds g c =
 
 pub step-size-requires : need.step-size-requires
 step-size-requires g c κs =
-    let laws = g .M·Choosing·met in
-    (omega arith,
-        next-small (g .M·Measure .ring) (g .M·Choosing .picks) (laws .either) (laws .former) (said (c .args .verdicts .now .words)) (c .args .start) (c .args .n) (c .args .total) (c .pre .some) (c .loop-place .place) (c .loop-place .cell) (c .next-best-next .result) (c .loop-place .prefix) (omega arith) (omega arith) (c .loop-place .inv .2 .0) (c .next-best-next .ensures .before))
+    let laws = g .M·Choosing·met in (
+      omega arith,
+      next-small (g .M·Measure .ring) (g .M·Choosing .picks) (laws .either) (laws .former) (said (c .args .verdicts .now .words)) (c .args .start) (c .args .n) (c .args .total) (c .pre .some) (c .loop-place .place) (c .loop-place .cell) (c .next-best-next .result) (c .loop-place .prefix) (omega arith) (omega arith) (c .loop-place .inv .2 .0) (c .next-best-next .ensures .before),
+    )
 
 pub loop-place-again : need.loop-place-again
 loop-place-again g c =
@@ -35,10 +36,11 @@ loop-place-again g c =
     let small : d < 48 = next-small R picks (laws .either) (laws .former) way (c .args .start) (c .args .n) (c .args .total) (c .pre .some) t (c .loop-place .cell) d (c .loop-place .prefix) (omega arith) (omega arith) (c .loop-place .inv .2 .0) (c .next-best-next .ensures .before) in
     let room = length-set (c .args .line .now) 0 (c .args .start) in
     let prefix : R .chain (c .loop-place .prefix) (R .step (leap (c .loop-place .cell) d)) ≡ c .chain-prefix .result = cc in
-    let stepped = traced-step R picks (laws .either) (laws .former) way (c .args .start) (c .args .n) (c .args .total) (c .pre .some) t (c .loop-place .cell) d (c .loop-place .prefix) line (omega arith) (omega arith) small (c .loop-place .inv .2) (c .next-best-next .ensures .before) (c .next-best-next .ensures .found small) in
-    (small,
-        drop-set-lt (c .args .n) line (t + 1) d (omega arith) ∙ c .loop-place .inv .1,
-        subst (λ p. Traced R picks way (c .args .start) (c .args .n) (c .args .total) (t + 1) d p (set line (t + 1) d)) prefix stepped)
+    let stepped = traced-step R picks (laws .either) (laws .former) way (c .args .start) (c .args .n) (c .args .total) (c .pre .some) t (c .loop-place .cell) d (c .loop-place .prefix) line (omega arith) (omega arith) small (c .loop-place .inv .2) (c .next-best-next .ensures .before) (c .next-best-next .ensures .found small) in (
+      small,
+      drop-set-lt (c .args .n) line (t + 1) d (omega arith) ∙ c .loop-place .inv .1,
+      subst (λ p. Traced R picks way (c .args .start) (c .args .n) (c .args .total) (t + 1) d p (set line (t + 1) d)) prefix stepped,
+    )
 
 pub returns : need.returns
 returns g c =

@@ -16,6 +16,6 @@ loop-next-again g c =
     let shifted : (e : ℕ) → next - 1 + suc e ≡ next + e = λ e. omega arith in
     let is : 2 * word + c .from .result ≡ 2 * word + boolByte (c .may .result) = ap (λ n. 2 * word + n) (c .from .ensures) in
     let fits : 2 * word + c .from .result < 2 ^ suc (48 - next) =
-        subst (λ n. n < 2 ^ suc (48 - next)) (sym is) (word-more (c .may .result) word (48 - next) (c .loop-next .inv .0)) in
+    subst (λ n. n < 2 ^ suc (48 - next)) (sym is) (word-more (c .may .result) word (48 - next) (c .loop-next .inv .0)) in
     let bits = bit-more (c .may .result) word (48 - next) (λ e. way (next - 1 + e)) (c .may .ensures ∙ ap way (sym lowest)) (λ e h. c .loop-next .inv .1 e h ∙ ap way (sym (shifted e))) in
     (subst (λ n. 2 * word + c .from .result < 2 ^ n) (sym width) fits, λ e h. ap (λ n. bit n e) is ∙ bits e (subst (λ n. e < n) width h))

@@ -14,8 +14,9 @@ loop-index-again g c =
     let words = c .loop-index .words in
     let index = c .loop-index .index in
     let word = c .word-within .result in
-    let Says : ℕ → ℕ → Type 0 = λ d i. bit (getD (set words index word) i 0) d ≡ (ltb (i / 48) (c .args .places) && g .P·Passage .way (c .args .passage .now) (i / 48) (i % 48) d) in
-    (length-set words index word ∙ c .loop-index .inv .0,
-        λ i d h k. below-more (Says d) index
-        (λ j l. ap (λ w. bit w d) (getD-set-other words index j word 0 (omega arith)) ∙ c .loop-index .inv .1 j d l k)
-        (ap (λ w. bit w d) (getD-set-same words index word 0 (omega arith)) ∙ c .word-within .ensures d k) i h)
+    let Says : ℕ → ℕ → Type 0 = λ d i. bit (getD (set words index word) i 0) d ≡ (ltb (i / 48) (c .args .places) && g .P·Passage .way (c .args .passage .now) (i / 48) (i % 48) d) in (
+      length-set words index word ∙ c .loop-index .inv .0,
+      λ i d h k. below-more (Says d) index
+          (λ j l. ap (λ w. bit w d) (getD-set-other words index j word 0 (omega arith)) ∙ c .loop-index .inv .1 j d l k)
+          (ap (λ w. bit w d) (getD-set-same words index word 0 (omega arith)) ∙ c .word-within .ensures d k) i h,
+    )
