@@ -5,7 +5,7 @@ ghost use lib.ListN.{length};
 ghost use mathlib.Core.Path.{_≡_};
 ghost use Prim.Native.Nat.{_+_, _-_, _*_, _≤_, _<_};
 ghost use Rattle.engine.specs.Lines.{leap};
-ghost use Rattle.engine.specs.Tables.{Filled, Kept, rest, round, sum, through};
+ghost use Rattle.engine.specs.Tables.{Filled, Kept, crossing, rest, round, sum, through};
 ghost use Rattle.engine.specs.Words.{said};
 use crate::passage::Passage;
 use crate::store::Store;
@@ -22,6 +22,22 @@ pub(crate) fn step_size(cell: usize, next: usize) -> u8
     (cell / 2).abs_diff(next / 2) as u8
 }
 
+/// A step between two cells, and what comes after it.
+pub(crate) fn step_then<M: Measure>(cell: usize, next: usize, after: M) -> M
+    requires { ⌜ cell < 48 ⌝ ∗ ⌜ next < 48 ⌝ }
+    ensures { λ r. ⌜ r ≡ ring .chain (ring .step (leap cell next)) after ⌝ }
+{
+    M::step(step_size(cell, next)).chain(after)
+}
+
+/// What comes before, and a step between two cells.
+pub(crate) fn then_step<M: Measure>(before: M, cell: usize, next: usize) -> M
+    requires { ⌜ cell < 48 ⌝ ∗ ⌜ next < 48 ⌝ }
+    ensures { λ r. ⌜ r ≡ ring .chain before (ring .step (leap cell next)) ⌝ }
+{
+    before.chain(M::step(step_size(cell, next)))
+}
+
 /// All ways on from a cell that is not at the last place, by the place after it.
 fn onward<M: Measure>(store: &Store<'_, M>, verdicts: &Verdicts, place: usize, cell: usize) -> M
     requires { ⌜ place < 63 ⌝ ∗ ⌜ cell < 48 ⌝ ∗ ⌜ 48 * (place + 2) ≤ length (now (now store .cells)) ⌝ }
@@ -31,10 +47,22 @@ fn onward<M: Measure>(store: &Store<'_, M>, verdicts: &Verdicts, place: usize, c
     for next in 0..CELLS {
         if verdicts.may(place, cell, next) {
             let after = store.get(CELLS * (place + 1) + next);
-            total = total.join(M::step(step_size(cell, next)).chain(after));
+            total = total.join(step_then(cell, next, after));
         }
     }
     total
+}
+
+/// The way on from a cell at the last place: the step over the seam to the goal.
+fn over_seam<M: Measure>(verdicts: &Verdicts, goal: usize, place: usize, cell: usize) -> M
+    requires { ⌜ cell < 48 ⌝ ∗ ⌜ goal < 48 ⌝ }
+    ensures { λ r. ⌜ r ≡ crossing ring (said (now (verdicts .entry) .words)) place cell goal ⌝ }
+{
+    if verdicts.may(place, cell, goal) {
+        M::step(step_size(cell, goal))
+    } else {
+        M::nothing()
+    }
 }
 
 /// All ways on from a cell, the places after it being filled.
@@ -52,10 +80,8 @@ fn value_of<M: Measure>(
 {
     if place + 1 < n {
         onward(store, verdicts, place, cell)
-    } else if verdicts.may(place, cell, goal) {
-        M::step(step_size(cell, goal))
     } else {
-        M::nothing()
+        over_seam(verdicts, goal, place, cell)
     }
 }
 

@@ -14,7 +14,7 @@ ghost use Rattle.engine.specs.Words.{said};
 ghost use Rattle.std.specs.Options.{isSome};
 ghost use Rattle.std.specs.Results.{isOk};
 ghost use Rattle.std.specs.declared.option.Option.the-variants.{Some};
-use crate::fill::step_size;
+use crate::fill::then_step;
 use crate::fill::weigh_all;
 use crate::fill::weigh_from;
 use crate::fit::line_for;
@@ -46,7 +46,7 @@ fn next_best<M: Choosing>(
     for next in 0..CELLS {
         if verdicts.may(place, cell, next) {
             let after = store.get(CELLS * (place + 1) + next);
-            let weight = prefix.chain(M::step(step_size(cell, next))).chain(after);
+            let weight = then_step(prefix, cell, next).chain(after);
             if weight.chooses(total) {
                 return next;
             }
@@ -100,7 +100,7 @@ fn trace<M: Choosing>(
     for place in 0..n - 1 {
         let next = next_best(store, verdicts, start, n, place, cell, prefix, total);
         line[place + 1] = next as u8;
-        prefix = prefix.chain(M::step(step_size(cell, next)));
+        prefix = then_step(prefix, cell, next);
         cell = next;
     }
 }

@@ -43,6 +43,14 @@ fn word_within<P: Passage>(passage: &P, places: usize, place: usize, cell: usize
     }
 }
 
+/// Whether a word says yes to a cell.
+fn says(word: u64, next: usize) -> bool
+    requires { ⌜ next < 48 ⌝ }
+    ensures { λ r. ⌜ r ≡ bit word next ⌝ }
+{
+    (word >> next) & 1 == 1
+}
+
 impl Verdicts {
     /// The verdicts of a passage at its first `places` places, and no everywhere else.
     pub fn of<P: Passage>(passage: &P, places: usize) -> Verdicts
@@ -63,6 +71,6 @@ pub impl Passage for Verdicts as VerdictsPassage {
         place < PLACES
             && cell < CELLS
             && next < CELLS
-            && (self.words[CELLS * place + cell] >> next) & 1 == 1
+            && says(self.words[CELLS * place + cell], next)
     }
 }

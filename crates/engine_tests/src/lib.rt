@@ -37,11 +37,16 @@ mod tests {
         let mut line = [99; 3];
         check_eq(first(&Three, 3, &mut memory, &mut line)?, true)?;
         check(line[0] == 0 && line[1] == 2 && line[2] == 0)?;
-        check_eq(weigh(&Three, 3, &mut memory)?.sum, 2)?;
+        check_eq(weigh(&Three, 3, &mut memory)?.sum, 2)
+    }
+
+    #[test]
+    fn none_and_one_place() -> Result<(), Fail> {
+        let mut line = [99; 3];
         let mut bits = [Possible { found: true }; 144];
         check_eq(first(&Shut, 3, &mut bits, &mut line)?, false)?;
         check_eq(first(&Wide, 1, &mut bits, &mut line)?, true)?;
-        check(line[0] == 0 && line[1] == 2)
+        check(line[0] == 0 && line[1] == 99)
     }
 
     // the steps of the four lines are 1 1 0, 1 2 3, 2 2 0 and 2 1 3
@@ -61,9 +66,18 @@ mod tests {
         let mut memory = [Number { value: 7 }; 48];
         let mut line = [99; 1];
         check_eq(weigh(&Wide, 1, &mut memory)?.value, 48)?;
-        check_eq(pick(&Wide, 1, &mut memory, &mut line, 1_000_000_000).err(), Some(Unfit::Number))?;
-        check_eq(pick(&Wide, 2, &mut memory, &mut line, 0).err(), Some(Unfit::Memory))?;
-        check_eq(pick(&Wide, 0, &mut memory, &mut line, 0).err(), Some(Unfit::Places))
+        check_eq(
+            pick(&Wide, 1, &mut memory, &mut line, 1_000_000_000).err(),
+            Some(Unfit::Number),
+        )?;
+        check_eq(
+            pick(&Wide, 2, &mut memory, &mut line, 0).err(),
+            Some(Unfit::Memory),
+        )?;
+        check_eq(
+            pick(&Wide, 0, &mut memory, &mut line, 0).err(),
+            Some(Unfit::Places),
+        )
     }
 
     #[test]

@@ -20,6 +20,7 @@ pub impl Measure for Triangle as TriangleMeasure {
         cross: false,
         far: false,
     };
+
     const ONE: Triangle = Triangle {
         near: true,
         cross: false,

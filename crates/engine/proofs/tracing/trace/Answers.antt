@@ -17,8 +17,8 @@ loop-place-holds g c =
     let begun = traced-start R picks (laws .either) (laws .former) way (c .args .start) (c .args .n) (c .args .total) (c .pre .some) (c .args .line .now) (omega arith) (c .pre .attained) in
     (omega arith, refl, subst (λ p. Traced R picks way (c .args .start) (c .args .n) (c .args .total) 0 (c .args .start) p (set (c .args .line .now) 0 (c .args .start))) (sym (c .unit-prefix .ensures)) begun)
 
-pub step-size-requires : need.step-size-requires
-step-size-requires g c κs =
+pub then-step-prefix-requires : need.then-step-prefix-requires
+then-step-prefix-requires g c κs =
     let laws = g .M·Choosing·met in (
       omega arith,
       next-small (g .M·Measure .ring) (g .M·Choosing .picks) (laws .either) (laws .former) (said (c .args .verdicts .now .words)) (c .args .start) (c .args .n) (c .args .total) (c .pre .some) (c .loop-place .place) (c .loop-place .cell) (c .next-best-next .result) (c .loop-place .prefix) (omega arith) (omega arith) (c .loop-place .inv .2 .0) (c .next-best-next .ensures .before),
@@ -35,7 +35,7 @@ loop-place-again g c =
     let line = c .loop-place .line in
     let small : d < 48 = next-small R picks (laws .either) (laws .former) way (c .args .start) (c .args .n) (c .args .total) (c .pre .some) t (c .loop-place .cell) d (c .loop-place .prefix) (omega arith) (omega arith) (c .loop-place .inv .2 .0) (c .next-best-next .ensures .before) in
     let room = length-set (c .args .line .now) 0 (c .args .start) in
-    let prefix : R .chain (c .loop-place .prefix) (R .step (leap (c .loop-place .cell) d)) ≡ c .chain-prefix .result = cc in
+    let prefix : R .chain (c .loop-place .prefix) (R .step (leap (c .loop-place .cell) d)) ≡ c .then-step-prefix .result = cc in
     let stepped = traced-step R picks (laws .either) (laws .former) way (c .args .start) (c .args .n) (c .args .total) (c .pre .some) t (c .loop-place .cell) d (c .loop-place .prefix) line (omega arith) (omega arith) small (c .loop-place .inv .2) (c .next-best-next .ensures .before) (c .next-best-next .ensures .found small) in (
       small,
       drop-set-lt (c .args .n) line (t + 1) d (omega arith) ∙ c .loop-place .inv .1,
