@@ -61,3 +61,20 @@ module _ {M : Type 0} (R : Ring M) where
       let before = sum R (through R way cells t c) d in
       let after = getD cells (48 * (t + 1) + d) (R .none) in
       sum-more (through R way cells t c) d ∙ ap (λ x. R .join before (R .chain x after)) (crossing-shut way t c d h) ∙ ap (R .join before) (R .none-chain after) ∙ none-join before
+
+  -- a sum of none is none
+  sum-of-none : (f : ℕ → M) (n : ℕ) → ((d : ℕ) → d < n → f d ≡ R .none) → sum R f n ≡ R .none
+  unfolding sum
+  sum-of-none f zero gone = refl
+  sum-of-none f (suc n) gone = ap₂ (R .join) (sum-of-none f n (λ d h. gone d (omega arith))) (gone n (omega arith)) ∙ R .join-none (R .none)
+
+  -- where nothing may follow, no way goes on
+  pub through-none : (way : Way) (cells : List M) (t c : ℕ) → ((d : ℕ) → d < 48 → way t c d ≡ false) → sum R (through R way cells t c) 48 ≡ R .none
+  through-none way cells t c shut =
+      sum-of-none (through R way cells t c) 48 (λ d h. ap (λ x. R .chain x (getD cells (48 * (t + 1) + d) (R .none))) (crossing-shut way t c d (shut d h)) ∙ R .none-chain (getD cells (48 * (t + 1) + d) (R .none)))
+
+  pub rest-none : (way : Way) (goal k t c : ℕ) → goal < 48 → ((d : ℕ) → d < 48 → way t c d ≡ false) → rest R way goal k t c ≡ R .none
+  unfolding rest
+  rest-none way goal zero t c small shut = crossing-shut way t c goal (shut goal small)
+  rest-none way goal (suc k) t c small shut =
+      sum-of-none (λ d. R .chain (crossing R way t c d) (rest R way goal k (t + 1) d)) 48 (λ d h. ap (λ x. R .chain x (rest R way goal k (t + 1) d)) (crossing-shut way t c d (shut d h)) ∙ R .none-chain (rest R way goal k (t + 1) d))

@@ -81,3 +81,11 @@ pub said-agrees : (words : List ℕ) (way : Way) (n : ℕ) → n ≤ 64 → ((t 
 said-agrees words way n most says t c d ht hc hd =
     let within = inside-from t c d (omega arith) hc hd in
     says t c d ∙ ap₂ (λ a b. (a && b) && way t c d) (lt-ltb t n ht) within
+
+-- a table says what the bits of its words say
+pub said-bit : (words : List ℕ) (t c d : ℕ) → t < 64 → c < 48 → d < 48 → said words t c d ≡ bit (getD words (48 * t + c) 0) d
+said-bit words t c d ht hc hd = ap (λ b. b && bit (getD words (48 * t + c) 0) d) (inside-from t c d ht hc hd)
+
+-- where a word is empty, nothing may follow
+pub said-nothing : (words : List ℕ) (t c d : ℕ) → t < 64 → c < 48 → d < 48 → getD words (48 * t + c) 0 ≡ 0 → said words t c d ≡ false
+said-nothing words t c d ht hc hd empty = said-bit words t c d ht hc hd ∙ ap (λ w. bit w d) empty ∙ bit-zero d

@@ -12,6 +12,7 @@ use crate::store::Store;
 use crate::verdicts::CELLS;
 use crate::verdicts::Verdicts;
 use crate::verdicts::VerdictsPassage;
+use crate::verdicts::says;
 use measure::algebra::Measure;
 
 /// How far the keys of two cells are apart.
@@ -44,8 +45,12 @@ fn onward<M: Measure>(store: &Store<'_, M>, verdicts: &Verdicts, place: usize, c
     ensures { λ r. ⌜ r ≡ sum ring (through ring (said (now (verdicts .entry) .words)) (now (now (store .entry) .cells)) place cell) 48 ⌝ }
 {
     let mut total = M::nothing();
+    let word = verdicts.word(place, cell);
+    if word == 0 {
+        return total;
+    }
     for next in 0..CELLS {
-        if verdicts.may(place, cell, next) {
+        if says(word, next) {
             let after = store.get(CELLS * (place + 1) + next);
             total = total.join(step_then(cell, next, after));
         }
@@ -124,6 +129,24 @@ pub(crate) fn weigh_from<M: Measure>(
     store.get(start)
 }
 
+/// What a start cell's lines come to, with no filling where no cell may follow it.
+fn weigh_start<M: Measure>(
+    store: &mut Store<'_, M>,
+    verdicts: &Verdicts,
+    start: usize,
+    n: usize,
+) -> M
+    requires bounds { ⌜ 0 < n ⌝ ∗ ⌜ n ≤ 64 ⌝ ∗ ⌜ start < 48 ⌝ ∗ ⌜ 48 * n ≤ length (now (now store .cells)) ⌝ }
+    ensures lender { λ _. ⌜ name (now (store .exit) .cells) ≡ name (now (store .entry) .cells) ⌝ }
+    ensures kept { λ _. ⌜ Kept n (now (now (store .entry) .cells)) (now (now (store .exit) .cells)) ⌝ }
+    ensures value { λ r. ⌜ r ≡ rest ring (said (now (verdicts .entry) .words)) start (n - 1) 0 start ⌝ }
+{
+    if verdicts.word(0, start) == 0 {
+        return M::nothing();
+    }
+    weigh_from(store, verdicts, start, n)
+}
+
 /// What all closed lines that are let through come to.
 pub(crate) fn weigh_all<M: Measure>(store: &mut Store<'_, M>, verdicts: &Verdicts, n: usize) -> M
     requires bounds { ⌜ 0 < n ⌝ ∗ ⌜ n ≤ 64 ⌝ ∗ ⌜ 48 * n ≤ length (now (now store .cells)) ⌝ }
@@ -133,7 +156,7 @@ pub(crate) fn weigh_all<M: Measure>(store: &mut Store<'_, M>, verdicts: &Verdict
 {
     let mut total = M::nothing();
     for start in 0..CELLS {
-        total = total.join(weigh_from(store, verdicts, start, n));
+        total = total.join(weigh_start(store, verdicts, start, n));
     }
     total
 }

@@ -1,9 +1,10 @@
 // A table of verdicts: a passage asked once and written down, a word for each place and cell.
 // Knows nothing of measures.
 ghost use lib.Dec.{ltb};
+ghost use lib.ListN.{getD};
 ghost use mathlib.Core.Bool.{_&&_};
 ghost use mathlib.Core.Path.{_≡_};
-ghost use Prim.Native.Nat.{ℕ, _^_, _<_};
+ghost use Prim.Native.Nat.{ℕ, _+_, _*_, _<_};
 ghost use Rattle.engine.specs.Words.{bit, inside, said};
 use crate::passage::Passage;
 
@@ -44,7 +45,7 @@ fn word_within<P: Passage>(passage: &P, places: usize, place: usize, cell: usize
 }
 
 /// Whether a word says yes to a cell.
-fn says(word: u64, next: usize) -> bool
+pub(crate) fn says(word: u64, next: usize) -> bool
     requires { ⌜ next < 48 ⌝ }
     ensures { λ r. ⌜ r ≡ bit word next ⌝ }
 {
@@ -61,6 +62,14 @@ impl Verdicts {
             words[index] = word_within(passage, places, index / CELLS, index % CELLS);
         }
         Verdicts { words }
+    }
+
+    /// The word of a place and a cell.
+    pub(crate) fn word(&self, place: usize, cell: usize) -> u64
+        requires { ⌜ place < 64 ⌝ ∗ ⌜ cell < 48 ⌝ }
+        ensures { λ r. ⌜ r ≡ getD (now (self .entry) .words) (48 * place + cell) 0 ⌝ }
+    {
+        self.words[CELLS * place + cell]
     }
 }
 

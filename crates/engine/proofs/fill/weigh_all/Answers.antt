@@ -14,9 +14,9 @@ loop-start-again g c =
     let R = g .M·Measure .ring in
     let way = said (c .args .verdicts .now .words) in
     let inv = c .loop-start .inv in
-    let here = c .weigh-from .ensures in
+    let here = c .weigh-start .ensures in
     let more = sum-more R (λ d. rest R way d (c .args .n - 1) 0 d) (c .loop-start .start) in (
       here .lender ∙ inv .0,
-      kept-kept (c .args .n) (c .args .store .now .cells .now) (c .loop-start .store .cells .now) (c .weigh-from .last .store .cells .now) (inv .1) (here .kept),
+      kept-kept (c .args .n) (c .args .store .now .cells .now) (c .loop-start .store .cells .now) (c .weigh-start .last .store .cells .now) (inv .1) (here .kept),
       c .join-total .ensures ∙ ap₂ (R .join) (inv .2) (here .value) ∙ sym more,
     )
