@@ -1,0 +1,11 @@
+pub mod Buffers
+pub mod Fillings
+pub mod Firsts
+pub mod Lists
+pub mod Numberings
+pub mod Picks
+pub mod Rests
+pub mod Rosters
+pub mod Shifts
+pub mod Totals
+pub mod Traces

@@ -1,0 +1,4 @@
+pub mod Algebra
+pub mod Movements
+pub mod Numbers
+pub mod Possibles
