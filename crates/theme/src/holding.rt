@@ -1,6 +1,6 @@
 // A blank theme, and what a theme holds. Knows nothing of pages.
 ghost use mathlib.Core.Path.{_≡_};
-ghost use Prim.Native.Nat.{_≤_};
+ghost use Prim.Native.Nat.{_≤_, _<_};
 ghost use lib.ListN.{length};
 ghost use Rattle.std.specs.shelf.Maps.{nth};
 ghost use Rattle.std.specs.Vec.{made};
@@ -33,7 +33,8 @@ impl Theme {
 
     /// The bar length, 0 where no page has been read.
     pub fn bar(&self) -> usize
-        ensures { λ r. ⌜ r ≡ held (now (self .entry)) .bar ⌝ }
+        ensures value { λ r. ⌜ r ≡ held (now (self .entry)) .bar ⌝ }
+        ensures some { λ r. ⌜ (0 < length (held (now (self .entry)) .places) → 0 < r) ⌝ }
     {
         self.bar
     }
