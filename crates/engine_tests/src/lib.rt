@@ -1,6 +1,7 @@
 // Tests of the engine: small passages whose lines are listed by hand, and a measure that does not commute.
 // Knows nothing of books, themes or sheets.
 
+pub mod examples;
 pub mod listed;
 pub mod triangle;
 
