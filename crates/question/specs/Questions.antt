@@ -1,0 +1,69 @@
+-- What each question asks first, and what it answers. Assumes nothing.
+use mathlib.Core.Bool.{Bool, true, cond}
+use mathlib.Core.List.{List, [], _∷_, _++_}
+use Prim.Native.Nat.{ℕ, min, _*_}
+use lib.Dec.{leb, ltb}
+use lib.ListN.{length}
+use Rattle.std.specs.Options.{isSome}
+use Rattle.std.specs.declared.option.Option.{Option}
+use Rattle.std.specs.declared.option.Option.the-variants.{Some, None}
+use Rattle.std.specs.shelf.Maps.{nth}
+use Rattle.theme.specs.Refusals.{first-no, or-next}
+use Rattle.sheet.specs.declared.refusal.Refusal.{Refusal}
+use Rattle.sheet.specs.declared.refusal.Refusal.the-variants.{TrialBeyondTheme, MemoryTooShort, LineUnfit, NumberTooLarge, NoLineStands, NumberNotBelowCount}
+use Rattle.sheet.specs.Plain.{places-of, theme-question}
+use Rattle.standing.specs.declared.trial.Trial.{Trial}
+use Rattle.standing.specs.Standing.{Asked, standing-lines}
+use Rattle.question.specs.Orders.{least-of}
+
+-- is a tried place one of n?
+abbrev pub tried-below : Option Trial → ℕ → Bool
+tried-below None n = true
+tried-below (Some trial) n = ltb (trial .place) n
+
+abbrev pub places-asked : Asked → ℕ
+places-asked a = places-of (a .sheet)
+
+-- what every question asks first: is a theme loaded, and is a tried place one of its places?
+abbrev pub base-questions : Asked → List (Bool × Refusal)
+base-questions a = theme-question (a .sheet) ∷ (tried-below (a .compass .trial) (places-asked a), TrialBeyondTheme) ∷ []
+
+-- then: are there 48 working values for each place?
+abbrev pub weigh-questions : Asked → ℕ → List (Bool × Refusal)
+weigh-questions a room = base-questions a ++ (leb (48 * places-asked a) room, MemoryTooShort) ∷ []
+
+-- then: has the line buffer a cell for each place?
+abbrev pub line-questions : Asked → ℕ → ℕ → List (Bool × Refusal)
+line-questions a room cells = weigh-questions a room ++ (leb (places-asked a) cells, LineUnfit) ∷ []
+
+-- then, to pick: is the number at most 999,999,999?
+abbrev pub pick-questions : Asked → ℕ → ℕ → ℕ → List (Bool × Refusal)
+pick-questions a room cells number = line-questions a room cells ++ (leb number 999999999, NumberTooLarge) ∷ []
+
+-- the number of standing lines, capped
+abbrev pub count-of : Asked → ℕ
+count-of a = min (length (standing-lines a)) 1000000000
+
+-- the line that decide, pick and least give, if there is one
+abbrev pub first-standing : Asked → Option (List ℕ)
+first-standing a = nth (standing-lines a) 0
+
+abbrev pub picked : Asked → ℕ → Option (List ℕ)
+picked a number = nth (standing-lines a) number
+
+abbrev pub least-standing : Asked → Option (List ℕ)
+least-standing a = least-of (places-asked a) (standing-lines a)
+
+-- the refusal of a call that finds no line
+abbrev pub unless-found : Option (List ℕ) → Refusal → Option Refusal
+unless-found None refusal = Some refusal
+unless-found (Some line) refusal = None
+
+abbrev pub decide-no : Asked → ℕ → ℕ → Option Refusal
+decide-no a room cells = or-next (first-no (line-questions a room cells)) (unless-found (first-standing a) NoLineStands)
+
+abbrev pub least-no : Asked → ℕ → ℕ → Option Refusal
+least-no a room cells = or-next (first-no (line-questions a room cells)) (unless-found (least-standing a) NoLineStands)
+
+abbrev pub pick-no : Asked → ℕ → ℕ → ℕ → Option Refusal
+pick-no a room cells number = or-next (first-no (pick-questions a room cells number)) (unless-found (picked a number) NumberNotBelowCount)

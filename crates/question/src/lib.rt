@@ -1,0 +1,3 @@
+// The questions asked of a closed sheet, over any book.
+// Knows nothing of pages or programs.
+mod asked;
