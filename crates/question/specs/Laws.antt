@@ -5,7 +5,11 @@ use mathlib.Core.Logic.{_⊎_}
 use mathlib.Core.Path.{_≡_}
 use Prim.Native.Nat.{ℕ, _≤_, _<_}
 use lib.ListN.{length}
+use Rattle.std.specs.Results.{Cases}
+use Rattle.std.specs.declared.result.Result.{Result}
 use Rattle.std.specs.shelf.Lists.{All, kept-by}
+use Rattle.sheet.specs.declared.refusal.Refusal.{Refusal}
+use Rattle.sheet.specs.declared.refusal.Refusal.the-variants.{NoLineStands, NumberNotBelowCount}
 use Rattle.standing.specs.Standing.{Asked, stands, standing-lines}
 use Rattle.question.specs.Orders.{precedes, movement}
 use Rattle.question.specs.Questions.{places-asked}
@@ -43,3 +47,18 @@ pub record Listed-exactly (a : Asked) : Type 0 where
   pub listed-stands : (line : List ℕ) → Among line (standing-lines a) → Stands a line
   pub stands-listed : (line : List ℕ) → Stands a line → Among line (standing-lines a)
   pub in-order : Ascending (standing-lines a)
+
+-- Answers ----------------------------------------------------------------------------------------
+
+-- decide gives the first standing line, or says that none stands, and only where none does
+abbrev pub Decided : Asked → Result (Unit {0}) Refusal → List ℕ → Type 0
+Decided a r line = Cases r (λ _. First a line) (λ e. e ≡ NoLineStands → None-stands a)
+
+-- least gives the standing line that moves least, or says that none stands, and only where none does
+abbrev pub Least-found : Asked → Result (Unit {0}) Refusal → List ℕ → Type 0
+Least-found a r line = Cases r (λ _. Least a line) (λ e. e ≡ NoLineStands → None-stands a)
+
+-- pick gives the line with a number below that of the standing lines, and refuses one that is not
+abbrev pub Picked : Asked → ℕ → Result (Unit {0}) Refusal → List ℕ → Type 0
+Picked a number r line =
+    Cases r (λ _. (number < length (standing-lines a)) × Numbered a number line) (λ e. e ≡ NumberNotBelowCount → length (standing-lines a) ≤ number)
