@@ -31,6 +31,10 @@ module _ (p : Plain) (compass : PlainCompass) (room cells : ℕ) (e : Refusal) w
 pub accepted-is : {X : Type 0} (o : Option Refusal) (x y : X) → x ≡ y → o ≡ None → _≡_ {A = Result X Refusal} (Ok x) (answer y o)
 accepted-is {X} o x y same none = ap (λ (v : X). Ok v) same ∙ sym (ap (λ (p : Option Refusal). answer y p) none)
 
+-- an answer with one
+pub stopped-is : {X : Type 0} (o : Option Refusal) (e : Refusal) (y : X) → o ≡ Some e → _≡_ {A = Result X Refusal} (Err e) (answer y o)
+stopped-is o e y some = sym (ap (λ (p : Option Refusal). answer y p) some)
+
 -- Calls that give a line -------------------------------------------------------------------------
 
 module _ (o : Option Refusal) (refusal : Refusal) where

@@ -10,11 +10,13 @@ use Rattle.std.specs.declared.option.Option.{Option}
 use Rattle.std.specs.declared.option.Option.the-variants.{Some, None}
 use Rattle.std.specs.shelf.Maps.{nth}
 use Rattle.theme.specs.Refusals.{first-no, or-next}
+use Rattle.counterpoint.specs.declared.moments.Moment.{Moment}
+use Rattle.counterpoint.specs.declared.moments.Succession.{Succession}
 use Rattle.sheet.specs.declared.refusal.Refusal.{Refusal}
 use Rattle.sheet.specs.declared.refusal.Refusal.the-variants.{TrialBeyondTheme, MemoryTooShort, LineUnfit, NumberTooLarge, NoLineStands, NumberNotBelowCount}
 use Rattle.sheet.specs.Plain.{Plain, places-of, theme-question}
 use Rattle.standing.specs.declared.trial.Trial.{Trial}
-use Rattle.standing.specs.Compasses.{PlainCompass}
+use Rattle.standing.specs.Compasses.{PlainCompass, trial-questions, with-trial}
 use Rattle.standing.specs.Standing.{Asked, standing-lines}
 use Rattle.question.specs.Orders.{least-of}
 
@@ -76,3 +78,14 @@ pub record Fit (n places room : ℕ) : Type 0 where
   pub some : 0 < n
   pub few : n ≤ 64
   pub roomy : 48 * n ≤ room
+
+-- A question under a trial -----------------------------------------------------------------------
+
+-- a sheet, a compass, and the two sets of a book
+abbrev pub under : Plain → PlainCompass → (Moment → Bool) → (Succession → Bool) → Asked
+under p compass admits allows = record { sheet = p; compass = compass; admits = admits; allows = allows }
+
+-- the inquiry after the trial, then what counting asks with the trial in force
+abbrev pub trial-no : Plain → PlainCompass → Trial → ℕ → Option Refusal
+trial-no p compass trial room =
+    or-next (first-no (trial-questions compass trial)) (first-no (weigh-questions p (with-trial compass (Some trial)) room))

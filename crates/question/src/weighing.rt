@@ -11,6 +11,7 @@ ghost use Rattle.sheet.specs.Plain.{places-of};
 ghost use Rattle.standing.specs.Asking.{asking};
 ghost use Rattle.standing.specs.Held.{plain-compass};
 ghost use Rattle.standing.specs.Standing.{standing-lines};
+ghost use Rattle.question.specs.Laws.{Listed-exactly};
 ghost use Rattle.question.specs.Questions.{weigh-questions, count-of, Fit};
 use super::asked::check_room;
 use counterpoint::book::Book;
@@ -51,6 +52,7 @@ pub fn weigh<B: Book, M: Measure>(
     memory: &mut [M],
 ) -> Result<M, Refusal>
     ensures answer { λ r. ⌜ r ≡ answer (joined-weight ring (places-of (closed (now (sheet .entry)))) (standing-lines (asking (now (sheet .entry)) (now (compass .entry)) (B·Book .admits (now (book .entry))) (B·Book .allows (now (book .entry)))))) (first-no (weigh-questions (closed (now (sheet .entry))) (plain-compass (now (compass .entry))) (length (now (memory .entry))))) ⌝ }
+    ensures law { λ _. ⌜ Listed-exactly (asking (now (sheet .entry)) (now (compass .entry)) (B·Book .admits (now (book .entry))) (B·Book .allows (now (book .entry)))) ⌝ }
     ensures beyond { λ _. ⌜ drop (48 * places-of (closed (now (sheet .entry)))) (now (memory .exit)) ≡ drop (48 * places-of (closed (now (sheet .entry)))) (now (memory .entry)) ⌝ }
     ensures refused { λ r. ⌜ (isOk r ≡ false → now (memory .exit) ≡ now (memory .entry)) ⌝ }
 {
@@ -66,6 +68,7 @@ pub fn count<B: Book>(
     memory: &mut [Number],
 ) -> Result<u32, Refusal>
     ensures answer { λ r. ⌜ r ≡ answer (count-of (asking (now (sheet .entry)) (now (compass .entry)) (B·Book .admits (now (book .entry))) (B·Book .allows (now (book .entry))))) (first-no (weigh-questions (closed (now (sheet .entry))) (plain-compass (now (compass .entry))) (length (now (memory .entry))))) ⌝ }
+    ensures law { λ _. ⌜ Listed-exactly (asking (now (sheet .entry)) (now (compass .entry)) (B·Book .admits (now (book .entry))) (B·Book .allows (now (book .entry)))) ⌝ }
     ensures beyond { λ _. ⌜ drop (48 * places-of (closed (now (sheet .entry)))) (now (memory .exit)) ≡ drop (48 * places-of (closed (now (sheet .entry)))) (now (memory .entry)) ⌝ }
     ensures refused { λ r. ⌜ (isOk r ≡ false → now (memory .exit) ≡ now (memory .entry)) ⌝ }
 {

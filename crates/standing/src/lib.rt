@@ -4,4 +4,4 @@ pub mod compass;
 mod meeting;
 pub mod passing;
 pub mod trial;
-mod trying;
+pub mod trying;
