@@ -82,9 +82,8 @@ impl Draft {
     pub fn close(self) -> Closed
         ensures { λ r. ⌜ closed r ≡ drafted self ⌝ }
     {
-        Closed {
-            content: self.content,
-        }
+        let Draft { content } = self;
+        Closed { content }
     }
 }
 
@@ -93,9 +92,8 @@ impl Closed {
     pub fn reopen(self) -> Draft
         ensures { λ r. ⌜ drafted r ≡ closed self ⌝ }
     {
-        Draft {
-            content: self.content,
-        }
+        let Closed { content } = self;
+        Draft { content }
     }
 
     /// The theme, blank where none is loaded.
