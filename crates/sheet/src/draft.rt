@@ -1,6 +1,7 @@
 // Draft sheets, which take load, add, drop, fix and free, and closed sheets, which take the questions.
 ghost use mathlib.Core.Path.{_≡_};
 ghost use mathlib.Core.Bool.{true};
+ghost use Prim.Native.Nat.{_≤_};
 ghost use lib.ListN.{length};
 ghost use Rattle.std.specs.Vec.{made};
 ghost use Rattle.theme.specs.Refusals.{first-no, answer};
@@ -81,9 +82,8 @@ impl Draft {
     pub fn close(self) -> Closed
         ensures { λ r. ⌜ closed r ≡ drafted self ⌝ }
     {
-        Closed {
-            content: self.content,
-        }
+        let Draft { content } = self;
+        Closed { content }
     }
 }
 
@@ -92,9 +92,8 @@ impl Closed {
     pub fn reopen(self) -> Draft
         ensures { λ r. ⌜ drafted r ≡ closed self ⌝ }
     {
-        Draft {
-            content: self.content,
-        }
+        let Closed { content } = self;
+        Draft { content }
     }
 
     /// The theme, blank where none is loaded.
@@ -108,6 +107,7 @@ impl Closed {
     pub fn combinations(&self) -> &[Combination]
         ensures value { λ r. ⌜ now r ≡ closed (now (self .entry)) .list ⌝ }
         ensures in_range { λ r. ⌜ all-in-range (places-of (closed (now (self .entry)))) (now r) ≡ true ⌝ }
+        ensures few { λ r. ⌜ length (now r) ≤ 8 ⌝ }
     {
         &self.content.list
     }

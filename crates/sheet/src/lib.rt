@@ -1,5 +1,6 @@
 // Sheets: a theme, the combinations listed for it, and the keys fixed at its places.
-// Knows nothing of books, compasses or lines.
+// And the cells that make a line. Knows nothing of books or compasses.
+pub mod cells;
 mod changes;
 pub mod combination;
 mod content;

@@ -2,7 +2,8 @@
 use mathlib.Core.Path.{_≡_, refl, sym, ap, _∙_}
 use mathlib.Core.Bool.{true, false, _&&_}
 use mathlib.Core.List.{List, [], _∷_, _++_, append-assoc, append-nil}
-use Prim.Native.Nat.{ℕ, _+_, _*_, _%_, _<_, _≤_}
+use Prim.Native.Nat.{ℕ, _+_, _-_, _*_, _%_, _<_, _≤_}
+use borrow.Rule.Slice.PartMut.{putMid}
 use lib.Dec.{eqb, leb}
 use lib.ListN.{length, take, drop, length-append}
 use native.Mathlib.Omega.{arith}
@@ -18,6 +19,14 @@ rows-of-push place [] p = ap (λ (n : ℕ). row-of n p) (omega arith)
 rows-of-push place (q ∷ qs) p =
     ap (λ (xs : List ℕ). row-of place q ++ xs)
     (rows-of-push (place + 1) qs p ∙ ap (λ (n : ℕ). rows-of (place + 1) qs ++ row-of n p) (omega arith))
+
+-- what a buffer holds once bytes are copied into its middle
+pub put-is : (n : ℕ) (buffer bytes copied : List ℕ) → copied ≡ bytes → putMid n (n + length bytes - n) buffer copied ≡ take n buffer ++ bytes ++ drop (n + length bytes) buffer
+put-is n buffer bytes copied is =
+    let k : n + length bytes - n ≡ length bytes = omega arith in
+    (λ i. take n buffer ++ (is i ++ drop (k i) (drop n buffer)))
+    ∙ (λ i. take n buffer ++ (bytes ++ drop-drop (length bytes) n buffer i))
+    ∙ sym (append-assoc (take n buffer) bytes (drop (n + length bytes) buffer))
 
 -- bytes put behind those that are written are written too
 pub put-more : (front bytes buffer out : List ℕ) (n : ℕ) → length front ≡ n → out ≡ front ++ drop n buffer → take n out ++ bytes ++ drop (n + length bytes) out ≡ front ++ bytes ++ drop (n + length bytes) buffer

@@ -22,8 +22,8 @@ fn column(number: u32, power: u32) -> u8
     }
 }
 
-// A number right-justified in four columns, with blanks to the left and no leading zero.
-pub(crate) fn columns(number: u32) -> [u8; 4]
+/// A number right-justified in four columns, with blanks to the left and no leading zero.
+pub fn columns(number: u32) -> [u8; 4]
     ensures { λ r. ⌜ r ≡ columns-of number ⌝ }
 {
     [

@@ -1,6 +1,6 @@
 // The theme on the first barrel, and the page that it is read from and written to.
 // Knows nothing of books, lines or sheets.
-mod field;
+pub mod field;
 mod holding;
 pub mod place;
 mod reading;
