@@ -7,7 +7,6 @@ use Rattle.std.specs.declared.option.Option.the-variants.{None}
 use Rattle.counterpoint.specs.Examples.{Worked-examples}
 use Rattle.counterpoint.specs.Strict.{strict-admits, strict-allows}
 use Rattle.theme.specs.declared.place.Mark.the-variants.{Pin}
-
 use Rattle.theme.specs.Themes.{PlainTheme}
 use Rattle.sheet.specs.declared.combination.Combination.{Combination}
 use Rattle.sheet.specs.Plain.{original}

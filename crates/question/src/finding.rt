@@ -94,7 +94,7 @@ pub fn decide<B: Book>(
     ensures refused { λ _. ⌜ ((e : Refusal) → first-no (line-questions (closed (now (sheet .entry))) (plain-compass (now (compass .entry))) (length (now (memory .entry))) (length (now (line .entry)))) ≡ Some e → now (memory .exit) ≡ now (memory .entry)) ⌝ }
 {
     let places = check_line(sheet, compass, memory.len(), line.len())?;
-    if !find_best(sheet, book, compass, places, memory, line) {
+    if !find_best::<B, Possible>(sheet, book, compass, places, memory, line) {
         return Err(Refusal::NoLineStands);
     }
     Ok(())
@@ -115,7 +115,7 @@ pub fn least<B: Book>(
     ensures refused { λ _. ⌜ ((e : Refusal) → first-no (line-questions (closed (now (sheet .entry))) (plain-compass (now (compass .entry))) (length (now (memory .entry))) (length (now (line .entry)))) ≡ Some e → now (memory .exit) ≡ now (memory .entry)) ⌝ }
 {
     let places = check_line(sheet, compass, memory.len(), line.len())?;
-    if !find_best(sheet, book, compass, places, memory, line) {
+    if !find_best::<B, Movement>(sheet, book, compass, places, memory, line) {
         return Err(Refusal::NoLineStands);
     }
     Ok(())

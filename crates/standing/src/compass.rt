@@ -13,3 +13,12 @@ pub struct Compass {
     ghost fit: { keys-fit lowest highest ≡ true },
     ghost within: { trial-fits lowest highest trial ≡ true },
 }
+
+impl Compass {
+    /// The trial in force, if any.
+    pub fn trial(&self) -> Option<Trial>
+        ensures { λ r. ⌜ r ≡ now (self .entry) .trial ⌝ }
+    {
+        self.trial
+    }
+}

@@ -52,13 +52,6 @@ impl Compass {
         self.lowest <= key && key <= self.highest
     }
 
-    /// The trial in force, if any.
-    pub fn trial(&self) -> Option<Trial>
-        ensures { λ r. ⌜ r ≡ plain-compass (now (self .entry)) .trial ⌝ }
-    {
-        self.trial
-    }
-
     /// Puts a trial in force and gives the former one; what the inquiry refuses leaves the former in force.
     pub fn enter(&mut self, trial: Trial) -> Option<Trial>
         ensures former { λ r. ⌜ r ≡ plain-compass (now (self .entry)) .trial ⌝ }
