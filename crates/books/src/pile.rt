@@ -21,7 +21,7 @@ pub struct Shifts {
 
 // Whether a book under two layers admits a moment.
 fn pile_admits<B: Book + Drop>(book: B, shifts: Shifts, moment: Moment) -> Result<bool, Refusal>
-    ensures { result ≡ pile_answer shifts.inner shifts.outer (vertical_admits (vertical_admits (B.Book.admits book) shifts.inner) shifts.outer moment) }
+    ensures { result ≡ pile_answer shifts.inner shifts.outer (vertical_admits (vertical_admits (B.admits book) shifts.inner) shifts.outer moment) }
 {
     let pile = Vertical::new(Vertical::new(book, shifts.inner)?, shifts.outer)?;
     Ok(pile.admits(moment))
@@ -33,7 +33,7 @@ fn pile_allows<B: Book + Drop>(
     shifts: Shifts,
     succession: Succession,
 ) -> Result<bool, Refusal>
-    ensures { result ≡ pile_answer shifts.inner shifts.outer (vertical_allows (vertical_allows (B.Book.allows book) shifts.inner) shifts.outer succession) }
+    ensures { result ≡ pile_answer shifts.inner shifts.outer (vertical_allows (vertical_allows (B.allows book) shifts.inner) shifts.outer succession) }
 {
     let pile = Vertical::new(Vertical::new(book, shifts.inner)?, shifts.outer)?;
     Ok(pile.allows(succession))

@@ -33,9 +33,9 @@ impl<B: Book + Drop> Vertical<B> {
 }
 
 impl<B: Book> Book for Vertical<B> {
-    ghost admits = { λ layer. vertical_admits (B.Book.admits layer.below) layer.shift };
+    ghost admits = { λ layer. vertical_admits (B.admits layer.below) layer.shift };
 
-    ghost allows = { λ layer. vertical_allows (B.Book.allows layer.below) layer.shift };
+    ghost allows = { λ layer. vertical_allows (B.allows layer.below) layer.shift };
 
     ghost bounded = { first_of (Prim.search rules, Prim.grind (arith, Self.row.coded.inj)) };
 

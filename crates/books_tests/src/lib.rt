@@ -1,4 +1,6 @@
 // Intervals and books at the ends of their ranges, and the books beside each other.
+#![tactic(auto)]
+
 #[cfg(test)]
 mod tests {
     use books::free::Free;

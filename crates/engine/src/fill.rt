@@ -21,7 +21,7 @@ pub(crate) fn step_size(cell: usize, next: usize) -> u8
 /// A step between two cells, and what comes after it.
 pub(crate) fn step_then<M: Measure>(cell: usize, next: usize, after: M) -> M
     requires { (cell < 48) × (next < 48) }
-    ensures { result ≡ ring.chain (ring.step (leap cell next)) after }
+    ensures { result ≡ M.ring.chain (M.ring.step (leap cell next)) after }
 {
     M::step(step_size(cell, next)).chain(after)
 }
@@ -29,7 +29,7 @@ pub(crate) fn step_then<M: Measure>(cell: usize, next: usize, after: M) -> M
 /// What comes before, and a step between two cells.
 pub(crate) fn then_step<M: Measure>(before: M, cell: usize, next: usize) -> M
     requires { (cell < 48) × (next < 48) }
-    ensures { result ≡ ring.chain before (ring.step (leap cell next)) }
+    ensures { result ≡ M.ring.chain before (M.ring.step (leap cell next)) }
 {
     before.chain(M::step(step_size(cell, next)))
 }
@@ -37,7 +37,7 @@ pub(crate) fn then_step<M: Measure>(before: M, cell: usize, next: usize) -> M
 /// All ways on from a cell that is not at the last place, by the place after it.
 fn onward<M: Measure>(store: &Store<'_, M>, verdicts: &Verdicts, place: usize, cell: usize) -> M
     requires { (place < 63) × ((cell < 48) × (48 * (place + 2) ≤ length store.now.cells.now)) }
-    ensures { result ≡ sum ring (through ring (said verdicts.now.words) store.now.cells.now place cell) 48 }
+    ensures { result ≡ sum M.ring (through M.ring (said verdicts.now.words) store.now.cells.now place cell) 48 }
 {
     let mut total = M::nothing();
     let word = verdicts.word(place, cell);
@@ -56,7 +56,7 @@ fn onward<M: Measure>(store: &Store<'_, M>, verdicts: &Verdicts, place: usize, c
 /// The way on from a cell at the last place: the step over the seam to the goal.
 fn over_seam<M: Measure>(verdicts: &Verdicts, goal: usize, place: usize, cell: usize) -> M
     requires { (cell < 48) × (goal < 48) }
-    ensures { result ≡ crossing ring (said verdicts.now.words) place cell goal }
+    ensures { result ≡ crossing M.ring (said verdicts.now.words) place cell goal }
 {
     if verdicts.may(place, cell, goal) {
         M::step(step_size(cell, goal))
@@ -75,8 +75,8 @@ fn value_of<M: Measure>(
     cell: usize,
 ) -> M
     requires bounds { (place < n) × ((n ≤ 64) × ((cell < 48) × ((goal < 48) × (48 * n ≤ length store.now.cells.now)))) }
-    requires filled { Filled ring (said verdicts.now.words) goal n (place + 1) store.now.cells.now }
-    ensures { result ≡ rest ring (said verdicts.now.words) goal (n - 1 - place) place cell }
+    requires filled { Filled M.ring (said verdicts.now.words) goal n (place + 1) store.now.cells.now }
+    ensures { result ≡ rest M.ring (said verdicts.now.words) goal (n - 1 - place) place cell }
 {
     if place + 1 < n {
         onward(store, verdicts, place, cell)
@@ -94,9 +94,9 @@ fn fill_place<M: Measure>(
     place: usize,
 )
     requires bounds { (place < n) × ((n ≤ 64) × ((goal < 48) × (48 * n ≤ length store.old.cells.now))) }
-    requires filled { Filled ring (said verdicts.now.words) goal n (place + 1) store.old.cells.now }
+    requires filled { Filled M.ring (said verdicts.now.words) goal n (place + 1) store.old.cells.now }
     ensures lender { store.new.cells.ghost_name ≡ store.old.cells.ghost_name }
-    ensures filled { Filled ring (said verdicts.now.words) goal n place store.new.cells.now }
+    ensures filled { Filled M.ring (said verdicts.now.words) goal n place store.new.cells.now }
     ensures kept { Kept n store.old.cells.now store.new.cells.now }
 {
     for cell in 0..CELLS {
@@ -114,9 +114,9 @@ pub(crate) fn weigh_from<M: Measure>(
 ) -> M
     requires bounds { (0 < n) × ((n ≤ 64) × ((start < 48) × (48 * n ≤ length store.old.cells.now))) }
     ensures lender { store.new.cells.ghost_name ≡ store.old.cells.ghost_name }
-    ensures filled { Filled ring (said verdicts.now.words) start n 0 store.new.cells.now }
+    ensures filled { Filled M.ring (said verdicts.now.words) start n 0 store.new.cells.now }
     ensures kept { Kept n store.old.cells.now store.new.cells.now }
-    ensures value { result ≡ rest ring (said verdicts.now.words) start (n - 1) 0 start }
+    ensures value { result ≡ rest M.ring (said verdicts.now.words) start (n - 1) 0 start }
 {
     for place in (0..n).rev() {
         fill_place(store, verdicts, start, n, place);
@@ -134,7 +134,7 @@ fn weigh_start<M: Measure>(
     requires bounds { (0 < n) × ((n ≤ 64) × ((start < 48) × (48 * n ≤ length store.old.cells.now))) }
     ensures lender { store.new.cells.ghost_name ≡ store.old.cells.ghost_name }
     ensures kept { Kept n store.old.cells.now store.new.cells.now }
-    ensures value { result ≡ rest ring (said verdicts.now.words) start (n - 1) 0 start }
+    ensures value { result ≡ rest M.ring (said verdicts.now.words) start (n - 1) 0 start }
 {
     if verdicts.word(0, start) == 0 {
         return M::nothing();
@@ -147,7 +147,7 @@ pub(crate) fn weigh_all<M: Measure>(store: &mut Store<'_, M>, verdicts: &Verdict
     requires bounds { (0 < n) × ((n ≤ 64) × (48 * n ≤ length store.old.cells.now)) }
     ensures lender { store.new.cells.ghost_name ≡ store.old.cells.ghost_name }
     ensures kept { Kept n store.old.cells.now store.new.cells.now }
-    ensures value { result ≡ round ring (said verdicts.now.words) n }
+    ensures value { result ≡ round M.ring (said verdicts.now.words) n }
 {
     let mut total = M::nothing();
     for start in 0..CELLS {

@@ -1,5 +1,6 @@
 // Closed walks over cells: weighed, traced and counted over any measure.
 // Knows cells and places, and nothing of why one cell may follow another.
+#![tactic(auto)]
 
 mod fill;
 mod fit;

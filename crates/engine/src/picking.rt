@@ -133,8 +133,8 @@ fn pick_line<P: Passage>(
     k: u32,
 ) -> bool
     requires { (0 < n) × ((n ≤ 64) × ((k < 1000000000) × ((48 * n ≤ length memory.old) × (n ≤ length line.old)))) }
-    ensures answer { result ≡ is_some (slice_get (roster (way passage.now) n) k) }
-    ensures line { line.new ≡ written (slice_get (roster (way passage.now) n) k) line.old }
+    ensures answer { result ≡ is_some (slice_get (roster (P.way passage.now) n) k) }
+    ensures line { line.new ≡ written (slice_get (roster (P.way passage.now) n) k) line.old }
     ensures beyond { drop (48 * n) memory.new ≡ drop (48 * n) memory.old }
 {
     let verdicts = Verdicts::of(passage, n);
@@ -152,8 +152,8 @@ pub fn pick<P: Passage>(
     line: &mut [u8],
     k: u32,
 ) -> Result<bool, Unfit>
-    ensures answer { result ≡ unless (first_no (pick_questions n (length memory.old) (length line.old) k)) (is_some (slice_get (roster (way passage.now) n) k)) }
-    ensures line { line.new ≡ unless_written (first_no (pick_questions n (length memory.old) (length line.old) k)) (slice_get (roster (way passage.now) n) k) line.old }
+    ensures answer { result ≡ unless (first_no (pick_questions n (length memory.old) (length line.old) k)) (is_some (slice_get (roster (P.way passage.now) n) k)) }
+    ensures line { line.new ≡ unless_written (first_no (pick_questions n (length memory.old) (length line.old) k)) (slice_get (roster (P.way passage.now) n) k) line.old }
     ensures beyond { drop (48 * n) memory.new ≡ drop (48 * n) memory.old }
     ensures refused { is_ok result ≡ false → memory.new ≡ memory.old }
 {

@@ -28,10 +28,10 @@ fn next_best<M: Choosing>(
     total: M,
 ) -> usize
     requires bounds { (place + 1 < n) × ((n ≤ 64) × ((cell < 48) × (48 * n ≤ length store.now.cells.now))) }
-    requires filled { Filled M.Measure.ring (said verdicts.now.words) goal n 0 store.now.cells.now }
+    requires filled { Filled M.ring (said verdicts.now.words) goal n 0 store.now.cells.now }
     ensures bound { result ≤ 48 }
-    ensures before { (d : ℕ) → d < result → attains M.Measure.ring picks (said verdicts.now.words) goal (n - 1 - (place + 1)) place cell prefix total d ≡ false }
-    ensures found { result < 48 → attains M.Measure.ring picks (said verdicts.now.words) goal (n - 1 - (place + 1)) place cell prefix total result ≡ true }
+    ensures before { (d : ℕ) → d < result → attains M.ring M.picks (said verdicts.now.words) goal (n - 1 - (place + 1)) place cell prefix total d ≡ false }
+    ensures found { result < 48 → attains M.ring M.picks (said verdicts.now.words) goal (n - 1 - (place + 1)) place cell prefix total result ≡ true }
 {
     for next in 0..CELLS {
         if verdicts.may(place, cell, next) {
@@ -56,9 +56,9 @@ fn best_start<M: Choosing>(
     ensures lender { store.new.cells.ghost_name ≡ store.old.cells.ghost_name }
     ensures kept { Kept n store.old.cells.now store.new.cells.now }
     ensures bound { result ≤ 48 }
-    ensures before { (c : ℕ) → c < result → picks (rest M.Measure.ring (said verdicts.now.words) c (n - 1) 0 c) total ≡ false }
-    ensures found { result < 48 → picks (rest M.Measure.ring (said verdicts.now.words) result (n - 1) 0 result) total ≡ true }
-    ensures filled { result < 48 → Filled M.Measure.ring (said verdicts.now.words) result n 0 store.new.cells.now }
+    ensures before { (c : ℕ) → c < result → M.picks (rest M.ring (said verdicts.now.words) c (n - 1) 0 c) total ≡ false }
+    ensures found { result < 48 → M.picks (rest M.ring (said verdicts.now.words) result (n - 1) 0 result) total ≡ true }
+    ensures filled { result < 48 → Filled M.ring (said verdicts.now.words) result n 0 store.new.cells.now }
 {
     for start in 0..CELLS {
         if weigh_from(store, verdicts, start, n).chooses(total) {
@@ -78,10 +78,10 @@ fn trace<M: Choosing>(
     line: &mut [u8],
 )
     requires bounds { (0 < n) × ((n ≤ 64) × ((start < 48) × ((48 * n ≤ length store.now.cells.now) × (n ≤ length line.old)))) }
-    requires filled { Filled M.Measure.ring (said verdicts.now.words) start n 0 store.now.cells.now }
-    requires some { picks M.Measure.ring.none total ≡ false }
-    requires attained { rest M.Measure.ring (said verdicts.now.words) start (n - 1) 0 start ≡ total }
-    ensures line { best_from M.Measure.ring picks (said verdicts.now.words) (n - 1) total start ≡ Some (take n line.new) }
+    requires filled { Filled M.ring (said verdicts.now.words) start n 0 store.now.cells.now }
+    requires some { M.picks M.ring.none total ≡ false }
+    requires attained { rest M.ring (said verdicts.now.words) start (n - 1) 0 start ≡ total }
+    ensures line { best_from M.ring M.picks (said verdicts.now.words) (n - 1) total start ≡ Some (take n line.new) }
     ensures beyond { drop n line.new ≡ drop n line.old }
 {
     let mut cell = start;
@@ -105,8 +105,8 @@ fn trace_first<M: Choosing>(
     requires bounds { (0 < n) × ((n ≤ 64) × ((48 * n ≤ length store.old.cells.now) × (n ≤ length line.old))) }
     ensures lender { store.new.cells.ghost_name ≡ store.old.cells.ghost_name }
     ensures kept { Kept n store.old.cells.now store.new.cells.now }
-    ensures answer { result ≡ is_some (first_best M.Measure.ring picks n (roster (said verdicts.now.words) n)) }
-    ensures line { line.new ≡ written (first_best M.Measure.ring picks n (roster (said verdicts.now.words) n)) line.old }
+    ensures answer { result ≡ is_some (first_best M.ring M.picks n (roster (said verdicts.now.words) n)) }
+    ensures line { line.new ≡ written (first_best M.ring M.picks n (roster (said verdicts.now.words) n)) line.old }
 {
     let total: M = weigh_all(store, verdicts, n);
     if M::nothing().chooses(total) {
@@ -125,8 +125,8 @@ fn first_line<M: Choosing, P: Passage>(
     line: &mut [u8],
 ) -> bool
     requires { (0 < n) × ((n ≤ 64) × ((48 * n ≤ length memory.old) × (n ≤ length line.old))) }
-    ensures answer { result ≡ is_some (first_best M.Measure.ring picks n (roster (way passage.now) n)) }
-    ensures line { line.new ≡ written (first_best M.Measure.ring picks n (roster (way passage.now) n)) line.old }
+    ensures answer { result ≡ is_some (first_best M.ring M.picks n (roster (P.way passage.now) n)) }
+    ensures line { line.new ≡ written (first_best M.ring M.picks n (roster (P.way passage.now) n)) line.old }
     ensures beyond { drop (48 * n) memory.new ≡ drop (48 * n) memory.old }
 {
     let verdicts = Verdicts::of(passage, n);
@@ -143,8 +143,8 @@ pub fn first<M: Choosing, P: Passage>(
     memory: &mut [M],
     line: &mut [u8],
 ) -> Result<bool, Unfit>
-    ensures answer { result ≡ unless (first_no (line_questions n (length memory.old) (length line.old))) (is_some (first_best M.Measure.ring picks n (roster (way passage.now) n))) }
-    ensures line { line.new ≡ unless_written (first_no (line_questions n (length memory.old) (length line.old))) (first_best M.Measure.ring picks n (roster (way passage.now) n)) line.old }
+    ensures answer { result ≡ unless (first_no (line_questions n (length memory.old) (length line.old))) (is_some (first_best M.ring M.picks n (roster (P.way passage.now) n))) }
+    ensures line { line.new ≡ unless_written (first_no (line_questions n (length memory.old) (length line.old))) (first_best M.ring M.picks n (roster (P.way passage.now) n)) line.old }
     ensures beyond { drop (48 * n) memory.new ≡ drop (48 * n) memory.old }
     ensures refused { is_ok result ≡ false → memory.new ≡ memory.old }
 {

@@ -21,7 +21,7 @@ pub struct Verdicts {
 
 /// What a passage says of all cells that may follow one cell.
 fn word_at<P: Passage>(passage: &P, place: usize, cell: usize) -> u64
-    ensures { (d : ℕ) → d < 48 → bit result d ≡ way passage.now place cell d }
+    ensures { (d : ℕ) → d < 48 → bit result d ≡ P.way passage.now place cell d }
 {
     let mut word = 0;
     for next in (0..CELLS).rev() {
@@ -32,7 +32,7 @@ fn word_at<P: Passage>(passage: &P, place: usize, cell: usize) -> u64
 
 /// The same, and no to all of them where the place is not one of the first `places`.
 fn word_within<P: Passage>(passage: &P, places: usize, place: usize, cell: usize) -> u64
-    ensures { (d : ℕ) → d < 48 → bit result d ≡ (nat_lt place places && way passage.now place cell d) }
+    ensures { (d : ℕ) → d < 48 → bit result d ≡ (nat_lt place places && P.way passage.now place cell d) }
 {
     if place < places {
         word_at(passage, place, cell)
@@ -52,7 +52,7 @@ pub(crate) fn says(word: u64, next: usize) -> bool
 impl Verdicts {
     /// The verdicts of a passage at its first `places` places, and no everywhere else.
     pub fn of<P: Passage>(passage: &P, places: usize) -> Verdicts
-        ensures { (t c d : ℕ) → said result.words t c d ≡ ((nat_lt t places && inside t c d) && way passage.now t c d) }
+        ensures { (t c d : ℕ) → said result.words t c d ≡ ((nat_lt t places && inside t c d) && P.way passage.now t c d) }
     {
         let mut words = [0; WORDS];
         for index in 0..WORDS {

@@ -16,7 +16,7 @@ use measure::algebra::Measure;
 /// The joined weight where there is room for the working values.
 fn weigh_lines<M: Measure, P: Passage>(passage: &P, n: usize, memory: &mut [M]) -> M
     requires { (0 < n) × ((n ≤ 64) × (48 * n ≤ length memory.old)) }
-    ensures answer { result ≡ joined_weight ring n (roster (way passage.now) n) }
+    ensures answer { result ≡ joined_weight M.ring n (roster (P.way passage.now) n) }
     ensures beyond { drop (48 * n) memory.new ≡ drop (48 * n) memory.old }
 {
     let verdicts = Verdicts::of(passage, n);
@@ -27,7 +27,7 @@ fn weigh_lines<M: Measure, P: Passage>(passage: &P, n: usize, memory: &mut [M]) 
 /// The joined weight of all lines of `n` cells that go round, none if there is none.
 /// Refuses where there are not 1 to 64 places, or not 48 values of memory for each.
 pub fn weigh<M: Measure, P: Passage>(passage: &P, n: usize, memory: &mut [M]) -> Result<M, Unfit>
-    ensures answer { result ≡ unless (first_no (room_questions n (length memory.old))) (joined_weight ring n (roster (way passage.now) n)) }
+    ensures answer { result ≡ unless (first_no (room_questions n (length memory.old))) (joined_weight M.ring n (roster (P.way passage.now) n)) }
     ensures beyond { drop (48 * n) memory.new ≡ drop (48 * n) memory.old }
     ensures refused { is_ok result ≡ false → memory.new ≡ memory.old }
 {

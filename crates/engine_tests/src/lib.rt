@@ -1,5 +1,6 @@
 // Tests of the engine: small passages whose lines are listed by hand, and a measure that does not commute.
 // Knows nothing of books, themes or sheets.
+#![tactic(auto)]
 
 pub mod examples;
 pub mod listed;

@@ -44,9 +44,9 @@ pub trait Choosing: Measure {
     fn chooses(self, other: Self) -> bool
         ensures { result ≡ picks self other };
 
-    ghost either: { (x y : Self) → Self.Measure.ring.join x y ≡ (if picks x y then x else y) };
+    ghost either: { (x y : Self) → Self.ring.join x y ≡ (if picks x y then x else y) };
 
-    ghost former: { (x y : Self) → Self.Measure.ring.join x y ≡ x → picks x y ≡ true };
+    ghost former: { (x y : Self) → Self.ring.join x y ≡ x → picks x y ≡ true };
 
-    ghost lasting: { (sizes : List ℕ) → length sizes ≤ 64 → All (λ s. s ≤ 23) sizes → walked Self.Measure.ring sizes ≢ Self.Measure.ring.none };
+    ghost lasting: { (sizes : List ℕ) → length sizes ≤ 64 → All (λ s. s ≤ 23) sizes → walked Self.ring sizes ≢ Self.ring.none };
 }

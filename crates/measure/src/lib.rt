@@ -1,5 +1,6 @@
 // Measures: what a closed line is weighed by, as laws and as three measures that keep them.
 // Knows nothing of lines or cells.
+#![tactic(auto)]
 
 pub mod algebra;
 pub mod counting;

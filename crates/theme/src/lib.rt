@@ -1,5 +1,7 @@
 // The theme on the first barrel, and the page that it is read from and written to.
 // Knows nothing of books, lines or sheets.
+#![tactic(auto)]
+
 pub mod field;
 mod holding;
 pub mod place;

@@ -1,4 +1,6 @@
 // Pages that are read, refused and written, by example. Each expected answer is worked out by hand.
+#![tactic(auto)]
+
 #[cfg(test)]
 mod tests {
     use std::alloc::{AllocError, Global};

@@ -24,16 +24,16 @@ by_code jv i fit-jv fit-i shift interval first second =
 
 pub returns-in-true-true : goal.returns-in-true-true
 returns-in-true-true c =
-    by_code _ _ c.ranges.jv c.ranges.interval c.if-not-is-shift-in-range.ensures c.if-not-is-interval-in-range.ensures c.in-true-true.ensures c.in-true-true.ensures'
+    by_code _ _ c.ranges.jv c.ranges.interval c.if-not-is_shift_in_range.ensures c.if-not-is_interval_in_range.ensures c.in-true-true.ensures c.in-true-true.ensures'
 
 pub returns-in-true-false : goal.returns-in-true-false
 returns-in-true-false c =
-    by_code _ _ c.ranges.jv c.ranges.interval c.if-not-is-shift-in-range.ensures c.if-not-is-interval-in-range.ensures c.in-true-false.ensures c.in-true-false.ensures'
+    by_code _ _ c.ranges.jv c.ranges.interval c.if-not-is_shift_in_range.ensures c.if-not-is_interval_in_range.ensures c.in-true-false.ensures c.in-true-false.ensures'
 
 pub returns-in-false-true : goal.returns-in-false-true
 returns-in-false-true c =
-    by_code _ _ c.ranges.jv c.ranges.interval c.if-not-is-shift-in-range.ensures c.if-not-is-interval-in-range.ensures c.in-false-true.ensures c.in-false-true.ensures'
+    by_code _ _ c.ranges.jv c.ranges.interval c.if-not-is_shift_in_range.ensures c.if-not-is_interval_in_range.ensures c.in-false-true.ensures c.in-false-true.ensures'
 
 pub returns-in-false-false : goal.returns-in-false-false
 returns-in-false-false c =
-    by_code _ _ c.ranges.jv c.ranges.interval c.if-not-is-shift-in-range.ensures c.if-not-is-interval-in-range.ensures c.in-false-false.ensures c.in-false-false.ensures'
+    by_code _ _ c.ranges.jv c.ranges.interval c.if-not-is_shift_in_range.ensures c.if-not-is_interval_in_range.ensures c.in-false-false.ensures c.in-false-false.ensures'

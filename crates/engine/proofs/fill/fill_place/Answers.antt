@@ -13,13 +13,13 @@ loop-cell-preserved g c =
     let t = c.args.place in
     let cell = c.loop-cell.cell in
     let cells = c.loop-cell.store.cells.now in
-    let v = c.value-of-value.result in
+    let v = c.value_of-value.result in
     let inv = c.loop-cell.invariant in
     let put = sym c.put.ensures.after in (
       c.put.ensures.lender ∙ inv.0,
       subst (Kept n c.args.store.now.cells.now) put (kept_set R way goal n t cell c.args.store.now.cells.now cells v (omega arith) (omega arith) inv.1),
       subst (Filled R way goal n (t + 1)) put (filled_set R way goal n t cell cells v (omega arith) inv.2),
-      subst (Begun R way goal n t (cell + 1)) put (begun_more R way goal n t cell cells v (omega arith) (omega arith) (omega arith) c.value-of-value.ensures inv.3),
+      subst (Begun R way goal n t (cell + 1)) put (begun_more R way goal n t cell cells v (omega arith) (omega arith) (omega arith) c.value_of-value.ensures inv.3),
     )
 
 pub returns : goal.returns

@@ -10,4 +10,4 @@ returns-then-place-n g c =
 pub returns-else-place-n : goal.returns-else-place-n
 returns-else-place-n g c =
     let last = rest_last g.M.Measure.ring (said c.args.verdicts.now.words) c.args.goal c.args.n c.args.place c.args.cell (omega arith) in
-    c.over-seam.ensures ∙ sym last
+    c.over_seam.ensures ∙ sym last

@@ -13,9 +13,9 @@ loop-start-preserved g c =
     let R = g.M.Measure.ring in
     let way = said c.args.verdicts.now.words in
     let inv = c.loop-start.invariant in
-    let here = c.weigh-start.ensures in
+    let here = c.weigh_start.ensures in
     let more = sum_more R (λ d. rest R way d (c.args.n - 1) 0 d) c.loop-start.start in (
       here.lender ∙ inv.0,
-      kept_kept c.args.n c.args.store.now.cells.now c.loop-start.store.cells.now c.weigh-start.new.store.cells.now inv.1 here.kept,
+      kept_kept c.args.n c.args.store.now.cells.now c.loop-start.store.cells.now c.weigh_start.new.store.cells.now inv.1 here.kept,
       c.join-total.ensures ∙ ap₂ R.join inv.2 here.value ∙ sym more,
     )

@@ -13,7 +13,7 @@ returns g c =
     let way = g.P.Passage.way c.args.passage.now in
     let same = ap (λ lines. slice_get lines c.args.k) (roster_cong (said words) way n (omega arith) (said_agrees words way n (omega arith) c.of-verdicts.ensures)) in
     record {
-      answer = c.trace-pick.ensures.answer ∙ ap is_some same;
-      line = c.trace-pick.ensures.line ∙ ap (λ o. written o c.args.line.now) same;
+      answer = c.trace_pick.ensures.answer ∙ ap is_some same;
+      line = c.trace_pick.ensures.line ∙ ap (λ o. written o c.args.line.now) same;
       beyond = search rules;
     }

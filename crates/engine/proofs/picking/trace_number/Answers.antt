@@ -16,8 +16,8 @@ loop-place-preserved c =
     let t = c.loop-place.place in
     let line = c.loop-place.line in
     let before = c.loop-place.invariant.3 in
-    let turn = c.next-turn-turn.result in
-    let found = c.next-turn-turn.ensures in
+    let turn = c.next_turn-turn.result in
+    let found = c.next_turn-turn.ensures in
     let small : turn.cell < 48 = turn_small way goal n c.args.start.number t c.loop-place.turn.cell c.loop-place.turn.number turn.cell turn.number (omega arith) found.bound before.0 found.passed in
     let room = length-set c.args.line.now 0 goal in (
       small,

@@ -12,8 +12,8 @@ pub returns-then-start-eq-CELLS : goal.returns-then-start-eq-CELLS
 returns-then-start-eq-CELLS c =
     let way = said c.args.verdicts.now.words in
     let by = begun_by way (c.args.n - 1) in
-    let found = c.first-turn-start.ensures in
-    let start = c.first-turn-start.result in
+    let found = c.first_turn-start.ensures in
+    let start = c.first_turn-start.result in
     let last : start.cell ≡ 48 = omega arith in
     let all : c.args.k ≡ passed by 48 + start.number = found.passed ∙ ap (λ d. passed by d + start.number) last in
     let gone = nth_beyond way c.args.n c.args.k (omega arith) (subst (λ m. passed by 48 ≤ m) (sym all) (le-add_right (passed by 48) start.number)) in
@@ -27,13 +27,13 @@ returns-then-start-eq-CELLS c =
 pub returns : goal.returns
 returns c =
     let way = said c.args.verdicts.now.words in
-    let found = c.first-turn-start.ensures in
-    let start = c.first-turn-start.result in
+    let found = c.first_turn-start.ensures in
+    let start = c.first_turn-start.result in
     let small : start.cell < 48 = omega arith in
-    let is = ap (slice_get (roster way c.args.n)) found.passed ∙ nth_start way c.args.n start.cell start.number (omega arith) small (found.among small) ∙ c.trace-number.ensures.line in
+    let is = ap (slice_get (roster way c.args.n)) found.passed ∙ nth_start way c.args.n start.cell start.number (omega arith) small (found.among small) ∙ c.trace_number.ensures.line in
     record {
       lender = found.lender;
       kept = found.kept;
       answer = sym (ap is_some is);
-      line = written_front c.args.n c.args.line.now c.trace-number.new.line (omega arith) c.trace-number.ensures.beyond ∙ sym (ap (λ o. written o c.args.line.now) is);
+      line = written_front c.args.n c.args.line.now c.trace_number.new.line (omega arith) c.trace_number.ensures.beyond ∙ sym (ap (λ o. written o c.args.line.now) is);
     }

@@ -13,7 +13,7 @@ returns g c =
     let way = g.P.Passage.way c.args.passage.now in
     let same = ap (first_best g.M.Measure.ring g.M.Choosing.picks n) (roster_cong (said words) way n (omega arith) (said_agrees words way n (omega arith) c.of-verdicts.ensures)) in
     record {
-      answer = c.trace-first.ensures.answer ∙ ap is_some same;
-      line = c.trace-first.ensures.line ∙ ap (λ o. written o c.args.line.now) same;
+      answer = c.trace_first.ensures.answer ∙ ap is_some same;
+      line = c.trace_first.ensures.line ∙ ap (λ o. written o c.args.line.now) same;
       beyond = search rules;
     }

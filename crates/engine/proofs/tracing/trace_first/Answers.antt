@@ -11,12 +11,12 @@ returns-then-chooses g c =
     let R = g.M.Measure.ring in
     let picks = g.M.Choosing.picks in
     let laws = g.met.M.Choosing in
-    let total = c.weigh-all-total.result in
+    let total = c.weigh_all-total.result in
     let gone : picks R.none total ≡ true = ap (λ x. picks x total) (sym c.nothing.ensures) ∙ sym c.chooses.ensures ∙ c.if-chooses.true in
-    let none = none_best R picks laws.either laws.former (said c.args.verdicts.now.words) laws.lasting c.args.n total (omega arith) (omega arith) c.weigh-all-total.ensures.value gone in
+    let none = none_best R picks laws.either laws.former (said c.args.verdicts.now.words) laws.lasting c.args.n total (omega arith) (omega arith) c.weigh_all-total.ensures.value gone in
     record {
-      lender = c.weigh-all-total.ensures.lender;
-      kept = c.weigh-all-total.ensures.kept;
+      lender = c.weigh_all-total.ensures.lender;
+      kept = c.weigh_all-total.ensures.kept;
       answer = sym (ap is_some none);
       line = sym (ap (λ o. written o c.args.line.now) none);
     }
@@ -27,16 +27,16 @@ trace-requires g c =
     let picks = g.M.Choosing.picks in
     let laws = g.met.M.Choosing in
     let way = said c.args.verdicts.now.words in
-    let total = c.weigh-all-total.result in
-    let start = c.best-start-start.result in
-    let found = c.best-start-start.ensures in
+    let total = c.weigh_all-total.result in
+    let start = c.best_start-start.result in
+    let found = c.best_start-start.ensures in
     let some : picks R.none total ≡ false = ap (λ x. picks x total) (sym c.nothing.ensures) ∙ sym c.chooses.ensures ∙ c.if-chooses.false in
-    let small = start_small R picks laws.either laws.former way c.args.n total (omega arith) c.weigh-all-total.ensures.value some start (omega arith) found.before in
+    let small = start_small R picks laws.either laws.former way c.args.n total (omega arith) c.weigh_all-total.ensures.value some start (omega arith) found.before in
     record {
       bounds = (omega arith, (omega arith, (small, (omega arith, omega arith))));
       filled = found.filled small;
       some = some;
-      attained = start_total R picks laws.either laws.former way c.args.n total (omega arith) c.weigh-all-total.ensures.value some start small (found.found small);
+      attained = start_total R picks laws.either laws.former way c.args.n total (omega arith) c.weigh_all-total.ensures.value some start small (found.found small);
     }
 
 pub returns : goal.returns
@@ -45,15 +45,15 @@ returns g c =
     let picks = g.M.Choosing.picks in
     let laws = g.met.M.Choosing in
     let way = said c.args.verdicts.now.words in
-    let total = c.weigh-all-total.result in
-    let start = c.best-start-start.result in
-    let found = c.best-start-start.ensures in
+    let total = c.weigh_all-total.result in
+    let start = c.best_start-start.result in
+    let found = c.best_start-start.ensures in
     let some : picks R.none total ≡ false = ap (λ x. picks x total) (sym c.nothing.ensures) ∙ sym c.chooses.ensures ∙ c.if-chooses.false in
-    let small = start_small R picks laws.either laws.former way c.args.n total (omega arith) c.weigh-all-total.ensures.value some start (omega arith) found.before in
-    let is = first_best_from R picks laws.either laws.former way c.args.n total (omega arith) c.weigh-all-total.ensures.value some start small found.before (found.found small) ∙ c.trace.ensures.line in
+    let small = start_small R picks laws.either laws.former way c.args.n total (omega arith) c.weigh_all-total.ensures.value some start (omega arith) found.before in
+    let is = first_best_from R picks laws.either laws.former way c.args.n total (omega arith) c.weigh_all-total.ensures.value some start small found.before (found.found small) ∙ c.trace.ensures.line in
     record {
-      lender = found.lender ∙ c.weigh-all-total.ensures.lender;
-      kept = kept_kept c.args.n c.args.store.now.cells.now c.weigh-all-total.new.store.cells.now c.best-start-start.new.store.cells.now c.weigh-all-total.ensures.kept found.kept;
+      lender = found.lender ∙ c.weigh_all-total.ensures.lender;
+      kept = kept_kept c.args.n c.args.store.now.cells.now c.weigh_all-total.new.store.cells.now c.best_start-start.new.store.cells.now c.weigh_all-total.ensures.kept found.kept;
       answer = sym (ap is_some is);
       line = written_front c.args.n c.args.line.now c.trace.new.line (omega arith) c.trace.ensures.beyond ∙ sym (ap (λ o. written o c.args.line.now) is);
     }

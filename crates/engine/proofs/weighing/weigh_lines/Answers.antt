@@ -14,6 +14,6 @@ returns g c =
     let way = g.P.Passage.way c.args.passage.now in
     let same = roster_cong (said words) way n (omega arith) (said_agrees words way n (omega arith) c.of-verdicts.ensures) in
     record {
-      answer = c.weigh-all.ensures.value ∙ sym (roster_round R (said words) n (omega arith)) ∙ ap (joined_weight R n) same;
+      answer = c.weigh_all.ensures.value ∙ sym (roster_round R (said words) n (omega arith)) ∙ ap (joined_weight R n) same;
       beyond = search rules;
     }

@@ -15,9 +15,9 @@ returns c =
     record {
       answer = grind (arith, nat_tests);
       written =
-          put_page (held c.args.self.now) c.args.out.now c.put.new.out c.put-rows.new.out
+          put_page (held c.args.self.now) c.args.out.now c.put.new.out c.put_rows.new.out
           (c.put.ensures ∙ (λ i. head i ++ drop (0 + length (head i)) c.args.out.now))
-          (c.put-rows.ensures ∙ (λ i. take 9 c.put.new.out ++ rows_of 0 (rows i) ++ drop (page_length (length (rows i))) c.put.new.out));
+          (c.put_rows.ensures ∙ (λ i. take 9 c.put.new.out ++ rows_of 0 (rows i) ++ drop (page_length (length (rows i))) c.put.new.out));
       within = omega arith;
       again = λ _. reads_back (held c.args.self.now) (held_lawful (vec_items places) c.args.self.now.bar c.args.self.now.well (omega (arith, many)));
     }
