@@ -48,7 +48,7 @@ fn ask_decide<B: Book, M: Measure>(
     memory: &mut [Possible],
     line: &mut [u8],
 ) -> Result<Answer<M>, AllocError>
-    ensures { IfOk result (λ a. Kept ring (closed_at (closed sheet.now)) (Decide (handed compass.now (B.Book.admits book.now) (B.Book.allows book.now)) (length memory.old) (length line.old)) (told a) (closed_at (closed sheet.now))) }
+    ensures { IfOk result (λ a. Kept M.ring (closed_at (closed sheet.now)) (Decide (handed compass.now (B.admits book.now) (B.allows book.now)) (length memory.old) (length line.old)) (told a) (closed_at (closed sheet.now))) }
 {
     let result = decide(sheet, book, compass, memory, line);
     of_line(heap, result, front(line, sheet))
@@ -63,7 +63,7 @@ fn ask_least<B: Book, M: Measure>(
     memory: &mut [Movement],
     line: &mut [u8],
 ) -> Result<Answer<M>, AllocError>
-    ensures { IfOk result (λ a. Kept ring (closed_at (closed sheet.now)) (Least (handed compass.now (B.Book.admits book.now) (B.Book.allows book.now)) (length memory.old) (length line.old)) (told a) (closed_at (closed sheet.now))) }
+    ensures { IfOk result (λ a. Kept M.ring (closed_at (closed sheet.now)) (Least (handed compass.now (B.admits book.now) (B.allows book.now)) (length memory.old) (length line.old)) (told a) (closed_at (closed sheet.now))) }
 {
     let result = least(sheet, book, compass, memory, line);
     of_line(heap, result, front(line, sheet))
@@ -79,7 +79,7 @@ fn ask_pick<B: Book, M: Measure>(
     line: &mut [u8],
     number: u32,
 ) -> Result<Answer<M>, AllocError>
-    ensures { IfOk result (λ a. Kept ring (closed_at (closed sheet.now)) (Pick (handed compass.now (B.Book.admits book.now) (B.Book.allows book.now)) (length memory.old) (length line.old) number) (told a) (closed_at (closed sheet.now))) }
+    ensures { IfOk result (λ a. Kept M.ring (closed_at (closed sheet.now)) (Pick (handed compass.now (B.admits book.now) (B.allows book.now)) (length memory.old) (length line.old) number) (told a) (closed_at (closed sheet.now))) }
 {
     let result = pick(sheet, book, compass, memory, line, number);
     of_line(heap, result, front(line, sheet))
@@ -92,7 +92,7 @@ fn ask_count<B: Book, M: Measure>(
     compass: &Compass,
     memory: &mut [Number],
 ) -> Answer<M>
-    ensures { Kept ring (closed_at (closed sheet.now)) (Count (handed compass.now (B.Book.admits book.now) (B.Book.allows book.now)) (length memory.old)) (told result) (closed_at (closed sheet.now)) }
+    ensures { Kept M.ring (closed_at (closed sheet.now)) (Count (handed compass.now (B.admits book.now) (B.allows book.now)) (length memory.old)) (told result) (closed_at (closed sheet.now)) }
 {
     of_number(count(sheet, book, compass, memory))
 }
@@ -104,7 +104,7 @@ fn ask_check<B: Book, M: Measure>(
     compass: &Compass,
     line: &[u8],
 ) -> Answer<M>
-    ensures { Kept ring (closed_at (closed sheet.now)) (Check (handed compass.now (B.Book.admits book.now) (B.Book.allows book.now)) line.now) (told result) (closed_at (closed sheet.now)) }
+    ensures { Kept M.ring (closed_at (closed sheet.now)) (Check (handed compass.now (B.admits book.now) (B.allows book.now)) line.now) (told result) (closed_at (closed sheet.now)) }
 {
     of_call(check(sheet, book, compass, line))
 }
@@ -120,7 +120,7 @@ pub(crate) fn ask<B: Book, M: Measure>(
     memory: &mut Memory<'_, M>,
     line: &mut [u8],
 ) -> Result<Answer<M>, AllocError>
-    ensures kept { IfOk result (λ a. Kept ring (closed_at (closed sheet.now)) (as_question (sizes_of memory.old line.old) room question.entry (handed compass.now (B.Book.admits book.now) (B.Book.allows book.now))) (told a) (closed_at (closed sheet.now))) }
+    ensures kept { IfOk result (λ a. Kept M.ring (closed_at (closed sheet.now)) (as_question (sizes_of memory.old line.old) room question.entry (handed compass.now (B.admits book.now) (B.allows book.now))) (told a) (closed_at (closed sheet.now))) }
     ensures sizes { sizes_of memory.new line.new ≡ sizes_of memory.old line.old }
 {
     match question {

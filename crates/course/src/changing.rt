@@ -33,7 +33,7 @@ fn drop_from<M>(draft: &mut Draft, setting: Setting) -> Answer<M>
 
 // Plays one call on a draft.
 pub(crate) fn change<M: Measure>(draft: Draft, call: Call<'_>) -> Step<M>
-    ensures { (hand : Query → Option Handed) (s : Sizes) → Kept ring (draft_at (drafted draft)) (as_call hand s call.entry) (told result.answer) (reached_by result.state) }
+    ensures { (hand : Query → Option Handed) (s : Sizes) → Kept M.ring (draft_at (drafted draft)) (as_call hand s call.entry) (told result.answer) (reached_by result.state) }
 {
     let mut draft = draft;
     let answer = match call {

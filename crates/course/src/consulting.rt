@@ -28,7 +28,7 @@ fn consult<B: Book, M: Measure>(
     memory: &mut Memory<'_, M>,
     line: &mut [u8],
 ) -> Result<Answer<M>, AllocError>
-    ensures kept { IfOk result (λ a. Kept ring (closed_at (closed sheet.now)) (asks (handing B.Book.admits B.Book.allows books.now compasses.now query) (as_question (sizes_of memory.old line.old) query.room question.entry)) (told a) (closed_at (closed sheet.now))) }
+    ensures kept { IfOk result (λ a. Kept M.ring (closed_at (closed sheet.now)) (asks (handing B.admits B.allows books.now compasses.now query) (as_question (sizes_of memory.old line.old) query.room question.entry)) (told a) (closed_at (closed sheet.now))) }
     ensures sizes { sizes_of memory.new line.new ≡ sizes_of memory.old line.old }
 {
     let Some(book) = books.get(query.book) else {
@@ -52,7 +52,7 @@ pub(crate) fn question<B: Book, M: Measure>(
     memory: &mut Memory<'_, M>,
     line: &mut [u8],
 ) -> Result<Step<M>, AllocError>
-    ensures kept { IfOk result (λ step. Kept ring (closed_at (closed sheet)) (as_call (handing B.Book.admits B.Book.allows books.now compasses.now) (sizes_of memory.old line.old) call.entry) (told step.answer) (reached_by step.state)) }
+    ensures kept { IfOk result (λ step. Kept M.ring (closed_at (closed sheet)) (as_call (handing B.admits B.allows books.now compasses.now) (sizes_of memory.old line.old) call.entry) (told step.answer) (reached_by step.state)) }
     ensures sizes { sizes_of memory.new line.new ≡ sizes_of memory.old line.old }
 {
     let answer = match call {

@@ -1,4 +1,6 @@
 // Courses of calls, played on one sheet from blank. Knows nothing of programs.
+#![tactic(auto)]
+
 pub mod answer;
 mod asking;
 pub mod call;

@@ -34,7 +34,7 @@ fn play<B: Book, M: Measure>(
     memory: &mut Memory<'_, M>,
     line: &mut [u8],
 ) -> Result<Step<M>, AllocError>
-    ensures kept { IfOk result (λ step. Kept ring (reached_by state) (as_call (handing B.Book.admits B.Book.allows books.now compasses.now) (sizes_of memory.old line.old) call.entry) (told step.answer) (reached_by step.state)) }
+    ensures kept { IfOk result (λ step. Kept M.ring (reached_by state) (as_call (handing B.admits B.allows books.now compasses.now) (sizes_of memory.old line.old) call.entry) (told step.answer) (reached_by step.state)) }
     ensures sizes { sizes_of memory.new line.new ≡ sizes_of memory.old line.old }
 {
     match state {
@@ -53,8 +53,8 @@ pub fn run<B: Book, M: Measure>(
     memory: &mut Memory<'_, M>,
     line: &mut [u8],
 ) -> Result<Played<M>, AllocError>
-    ensures faultless { IfOk result (λ played. Faultless ring Blank (map (as_call (handing B.Book.admits B.Book.allows books.now compasses.now) (sizes_of memory.old line.old)) calls.now) (map told played.answers.items)) }
-    ensures sheet { IfOk result (λ played. reached_by played.state ≡ reached (then_all Blank (map (as_call (handing B.Book.admits B.Book.allows books.now compasses.now) (sizes_of memory.old line.old)) calls.now))) }
+    ensures faultless { IfOk result (λ played. Faultless M.ring Blank (map (as_call (handing B.admits B.allows books.now compasses.now) (sizes_of memory.old line.old)) calls.now) (map told played.answers.items)) }
+    ensures sheet { IfOk result (λ played. reached_by played.state ≡ reached (then_all Blank (map (as_call (handing B.admits B.allows books.now compasses.now) (sizes_of memory.old line.old)) calls.now))) }
     ensures sizes { sizes_of memory.new line.new ≡ sizes_of memory.old line.old }
 {
     let mut state = State::Open(Draft::blank(heap)?);

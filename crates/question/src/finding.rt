@@ -37,8 +37,8 @@ fn find_best<'a, B: Book, M: Choosing>(
     line: &mut [u8],
 ) -> bool
     requires { (Fit places (places_of (closed sheet.now)) (length memory.old)) × (places ≤ length line.old) }
-    ensures answer { result ≡ is_some (first_best M.Measure.ring picks places (standing_lines (asking sheet.now compass.now (B.Book.admits book.now) (B.Book.allows book.now)))) }
-    ensures line { line.new ≡ written (first_best M.Measure.ring picks places (standing_lines (asking sheet.now compass.now (B.Book.admits book.now) (B.Book.allows book.now)))) line.old }
+    ensures answer { result ≡ is_some (first_best M.ring M.picks places (standing_lines (asking sheet.now compass.now (B.admits book.now) (B.allows book.now)))) }
+    ensures line { line.new ≡ written (first_best M.ring M.picks places (standing_lines (asking sheet.now compass.now (B.admits book.now) (B.allows book.now)))) line.old }
     ensures beyond { drop (48 * places) memory.new ≡ drop (48 * places) memory.old }
 {
     let passing = Passing {
@@ -60,8 +60,8 @@ fn find_numbered<'a, B: Book>(
     number: u32,
 ) -> bool
     requires { (Fit places (places_of (closed sheet.now)) (length memory.old)) × ((places ≤ length line.old) × (number ≤ 999999999)) }
-    ensures answer { result ≡ is_some (picked (asking sheet.now compass.now (B.Book.admits book.now) (B.Book.allows book.now)) number) }
-    ensures line { line.new ≡ written (picked (asking sheet.now compass.now (B.Book.admits book.now) (B.Book.allows book.now)) number) line.old }
+    ensures answer { result ≡ is_some (picked (asking sheet.now compass.now (B.admits book.now) (B.allows book.now)) number) }
+    ensures line { line.new ≡ written (picked (asking sheet.now compass.now (B.admits book.now) (B.allows book.now)) number) line.old }
     ensures beyond { drop (48 * places) memory.new ≡ drop (48 * places) memory.old }
 {
     let passing = Passing {
@@ -80,10 +80,10 @@ pub fn decide<B: Book>(
     memory: &mut [Possible],
     line: &mut [u8],
 ) -> Result<(), Refusal>
-    ensures answer { result ≡ answer tt (decide_no (asking sheet.now compass.now (B.Book.admits book.now) (B.Book.allows book.now)) (length memory.old) (length line.old)) }
-    ensures line { line.new ≡ unless (decide_no (asking sheet.now compass.now (B.Book.admits book.now) (B.Book.allows book.now)) (length memory.old) (length line.old)) (written (first_standing (asking sheet.now compass.now (B.Book.admits book.now) (B.Book.allows book.now))) line.old) line.old }
-    ensures law { Decided (asking sheet.now compass.now (B.Book.admits book.now) (B.Book.allows book.now)) result (take (places_of (closed sheet.now)) line.new) }
-    ensures course { Kept unweighed (closed_at (closed sheet.now)) (Decide (handed compass.now (B.Book.admits book.now) (B.Book.allows book.now)) (length memory.old) (length line.old)) (told_line result (take (places_of (closed sheet.now)) line.new)) (closed_at (closed sheet.now)) }
+    ensures answer { result ≡ answer tt (decide_no (asking sheet.now compass.now (B.admits book.now) (B.allows book.now)) (length memory.old) (length line.old)) }
+    ensures line { line.new ≡ unless (decide_no (asking sheet.now compass.now (B.admits book.now) (B.allows book.now)) (length memory.old) (length line.old)) (written (first_standing (asking sheet.now compass.now (B.admits book.now) (B.allows book.now))) line.old) line.old }
+    ensures law { Decided (asking sheet.now compass.now (B.admits book.now) (B.allows book.now)) result (take (places_of (closed sheet.now)) line.new) }
+    ensures course { Kept unweighed (closed_at (closed sheet.now)) (Decide (handed compass.now (B.admits book.now) (B.allows book.now)) (length memory.old) (length line.old)) (told_line result (take (places_of (closed sheet.now)) line.new)) (closed_at (closed sheet.now)) }
     ensures beyond { drop (48 * places_of (closed sheet.now)) memory.new ≡ drop (48 * places_of (closed sheet.now)) memory.old }
     ensures refused { (e : Refusal) → first_no (line_questions (closed sheet.now) (plain_compass compass.now) (length memory.old) (length line.old)) ≡ Some e → memory.new ≡ memory.old }
 {
@@ -102,10 +102,10 @@ pub fn least<B: Book>(
     memory: &mut [Movement],
     line: &mut [u8],
 ) -> Result<(), Refusal>
-    ensures answer { result ≡ answer tt (least_no (asking sheet.now compass.now (B.Book.admits book.now) (B.Book.allows book.now)) (length memory.old) (length line.old)) }
-    ensures line { line.new ≡ unless (least_no (asking sheet.now compass.now (B.Book.admits book.now) (B.Book.allows book.now)) (length memory.old) (length line.old)) (written (least_standing (asking sheet.now compass.now (B.Book.admits book.now) (B.Book.allows book.now))) line.old) line.old }
-    ensures law { LeastFound (asking sheet.now compass.now (B.Book.admits book.now) (B.Book.allows book.now)) result (take (places_of (closed sheet.now)) line.new) }
-    ensures course { Kept unweighed (closed_at (closed sheet.now)) (Least (handed compass.now (B.Book.admits book.now) (B.Book.allows book.now)) (length memory.old) (length line.old)) (told_line result (take (places_of (closed sheet.now)) line.new)) (closed_at (closed sheet.now)) }
+    ensures answer { result ≡ answer tt (least_no (asking sheet.now compass.now (B.admits book.now) (B.allows book.now)) (length memory.old) (length line.old)) }
+    ensures line { line.new ≡ unless (least_no (asking sheet.now compass.now (B.admits book.now) (B.allows book.now)) (length memory.old) (length line.old)) (written (least_standing (asking sheet.now compass.now (B.admits book.now) (B.allows book.now))) line.old) line.old }
+    ensures law { LeastFound (asking sheet.now compass.now (B.admits book.now) (B.allows book.now)) result (take (places_of (closed sheet.now)) line.new) }
+    ensures course { Kept unweighed (closed_at (closed sheet.now)) (Least (handed compass.now (B.admits book.now) (B.allows book.now)) (length memory.old) (length line.old)) (told_line result (take (places_of (closed sheet.now)) line.new)) (closed_at (closed sheet.now)) }
     ensures beyond { drop (48 * places_of (closed sheet.now)) memory.new ≡ drop (48 * places_of (closed sheet.now)) memory.old }
     ensures refused { (e : Refusal) → first_no (line_questions (closed sheet.now) (plain_compass compass.now) (length memory.old) (length line.old)) ≡ Some e → memory.new ≡ memory.old }
 {
@@ -125,10 +125,10 @@ pub fn pick<B: Book>(
     line: &mut [u8],
     number: u32,
 ) -> Result<(), Refusal>
-    ensures answer { result ≡ answer tt (pick_no (asking sheet.now compass.now (B.Book.admits book.now) (B.Book.allows book.now)) (length memory.old) (length line.old) number) }
-    ensures line { line.new ≡ unless (pick_no (asking sheet.now compass.now (B.Book.admits book.now) (B.Book.allows book.now)) (length memory.old) (length line.old) number) (written (picked (asking sheet.now compass.now (B.Book.admits book.now) (B.Book.allows book.now)) number) line.old) line.old }
-    ensures law { Picked (asking sheet.now compass.now (B.Book.admits book.now) (B.Book.allows book.now)) number result (take (places_of (closed sheet.now)) line.new) }
-    ensures course { Kept unweighed (closed_at (closed sheet.now)) (Pick (handed compass.now (B.Book.admits book.now) (B.Book.allows book.now)) (length memory.old) (length line.old) number) (told_line result (take (places_of (closed sheet.now)) line.new)) (closed_at (closed sheet.now)) }
+    ensures answer { result ≡ answer tt (pick_no (asking sheet.now compass.now (B.admits book.now) (B.allows book.now)) (length memory.old) (length line.old) number) }
+    ensures line { line.new ≡ unless (pick_no (asking sheet.now compass.now (B.admits book.now) (B.allows book.now)) (length memory.old) (length line.old) number) (written (picked (asking sheet.now compass.now (B.admits book.now) (B.allows book.now)) number) line.old) line.old }
+    ensures law { Picked (asking sheet.now compass.now (B.admits book.now) (B.allows book.now)) number result (take (places_of (closed sheet.now)) line.new) }
+    ensures course { Kept unweighed (closed_at (closed sheet.now)) (Pick (handed compass.now (B.admits book.now) (B.allows book.now)) (length memory.old) (length line.old) number) (told_line result (take (places_of (closed sheet.now)) line.new)) (closed_at (closed sheet.now)) }
     ensures beyond { drop (48 * places_of (closed sheet.now)) memory.new ≡ drop (48 * places_of (closed sheet.now)) memory.old }
     ensures refused { (e : Refusal) → first_no (pick_questions (closed sheet.now) (plain_compass compass.now) (length memory.old) (length line.old) number) ≡ Some e → memory.new ≡ memory.old }
 {

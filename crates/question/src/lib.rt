@@ -1,5 +1,7 @@
 // The questions asked of a closed sheet, over any book.
 // Knows nothing of pages or programs.
+#![tactic(auto)]
+
 mod asked;
 pub mod examples;
 pub mod finding;

@@ -25,7 +25,7 @@ pub fn count_trying<B: Book>(
     trial: Trial,
     memory: &mut [Number],
 ) -> Result<u32, Refusal>
-    ensures answer { result ≡ answer (count_of (under (closed sheet.now) (with_trial (plain_compass compass.old) (Some trial)) (B.Book.admits book.now) (B.Book.allows book.now))) (trial_no (closed sheet.now) (plain_compass compass.old) trial (length memory.old)) }
+    ensures answer { result ≡ answer (count_of (under (closed sheet.now) (with_trial (plain_compass compass.old) (Some trial)) (B.admits book.now) (B.allows book.now))) (trial_no (closed sheet.now) (plain_compass compass.old) trial (length memory.old)) }
     ensures compass { plain_compass compass.new ≡ plain_compass compass.old }
     ensures refused { is_ok result ≡ false → memory.new ≡ memory.old }
     ensures beyond { drop (48 * places_of (closed sheet.now)) memory.new ≡ drop (48 * places_of (closed sheet.now)) memory.old }

@@ -31,7 +31,7 @@ fn weigh_all<'a, B: Book, M: Measure>(
     memory: &mut [M],
 ) -> M
     requires { Fit places (places_of (closed sheet.now)) (length memory.old) }
-    ensures answer { result ≡ joined_weight ring places (standing_lines (asking sheet.now compass.now (B.Book.admits book.now) (B.Book.allows book.now))) }
+    ensures answer { result ≡ joined_weight M.ring places (standing_lines (asking sheet.now compass.now (B.admits book.now) (B.allows book.now))) }
     ensures beyond { drop (48 * places) memory.new ≡ drop (48 * places) memory.old }
 {
     let passing = Passing {
@@ -49,9 +49,9 @@ pub fn weigh<B: Book, M: Measure>(
     compass: &Compass,
     memory: &mut [M],
 ) -> Result<M, Refusal>
-    ensures answer { result ≡ answer (joined_weight ring (places_of (closed sheet.now)) (standing_lines (asking sheet.now compass.now (B.Book.admits book.now) (B.Book.allows book.now)))) (first_no (weigh_questions (closed sheet.now) (plain_compass compass.now) (length memory.old))) }
-    ensures law { ListedExactly (asking sheet.now compass.now (B.Book.admits book.now) (B.Book.allows book.now)) }
-    ensures course { Kept ring (closed_at (closed sheet.now)) (Weigh (handed compass.now (B.Book.admits book.now) (B.Book.allows book.now)) (length memory.old)) (told_weight result) (closed_at (closed sheet.now)) }
+    ensures answer { result ≡ answer (joined_weight M.ring (places_of (closed sheet.now)) (standing_lines (asking sheet.now compass.now (B.admits book.now) (B.allows book.now)))) (first_no (weigh_questions (closed sheet.now) (plain_compass compass.now) (length memory.old))) }
+    ensures law { ListedExactly (asking sheet.now compass.now (B.admits book.now) (B.allows book.now)) }
+    ensures course { Kept M.ring (closed_at (closed sheet.now)) (Weigh (handed compass.now (B.admits book.now) (B.allows book.now)) (length memory.old)) (told_weight result) (closed_at (closed sheet.now)) }
     ensures beyond { drop (48 * places_of (closed sheet.now)) memory.new ≡ drop (48 * places_of (closed sheet.now)) memory.old }
     ensures refused { is_ok result ≡ false → memory.new ≡ memory.old }
 {
@@ -66,9 +66,9 @@ pub fn count<B: Book>(
     compass: &Compass,
     memory: &mut [Number],
 ) -> Result<u32, Refusal>
-    ensures answer { result ≡ answer (count_of (asking sheet.now compass.now (B.Book.admits book.now) (B.Book.allows book.now))) (first_no (weigh_questions (closed sheet.now) (plain_compass compass.now) (length memory.old))) }
-    ensures law { ListedExactly (asking sheet.now compass.now (B.Book.admits book.now) (B.Book.allows book.now)) }
-    ensures course { Kept unweighed (closed_at (closed sheet.now)) (Count (handed compass.now (B.Book.admits book.now) (B.Book.allows book.now)) (length memory.old)) (told_number result) (closed_at (closed sheet.now)) }
+    ensures answer { result ≡ answer (count_of (asking sheet.now compass.now (B.admits book.now) (B.allows book.now))) (first_no (weigh_questions (closed sheet.now) (plain_compass compass.now) (length memory.old))) }
+    ensures law { ListedExactly (asking sheet.now compass.now (B.admits book.now) (B.allows book.now)) }
+    ensures course { Kept unweighed (closed_at (closed sheet.now)) (Count (handed compass.now (B.admits book.now) (B.allows book.now)) (length memory.old)) (told_number result) (closed_at (closed sheet.now)) }
     ensures beyond { drop (48 * places_of (closed sheet.now)) memory.new ≡ drop (48 * places_of (closed sheet.now)) memory.old }
     ensures refused { is_ok result ≡ false → memory.new ≡ memory.old }
 {

@@ -1,8 +1,9 @@
 -- Finding a combination in a list, place by place. Assumes nothing.
-use Rattle.std.proofs.Common.{◌≡◌, ℕ, ◌+◌, ◌<◌, ◌≤◌, Bool, true, false, cond, ◌&&◌, eqb, List, [], ◌∷◌, ◌++◌, length, get_or, take, drop, ℤ, pos, negsuc, Decides, sym, refl, ap, ◌∙◌, append_assoc, add-one, arith}
+use Rattle.std.proofs.Common.{◌≡◌, ℕ, ◌+◌, ◌<◌, ◌≤◌, Bool, true, false, cond, ◌&&◌, eqb, List, [], ◌∷◌, ◌++◌, length, get_or, take, drop, ℤ, pos, negsuc, int_eq, sym, refl, ap, ◌∙◌, append_assoc, add-one, arith}
 use Rattle.std.specs.List.{remove}
+use Rattle.std.specs.Cmp.{signed_Decides}
 use Rattle.std.proofs.lemmas.List.{take_more, drop_more, drop_all}
-use Rattle.std.proofs.lemmas.Bool.{and_from, and_parts, eqb-true, eq-eqb, false≢true}
+use Rattle.std.proofs.lemmas.Bool.{and_from, and_parts, eqb-true, eq-eqb}
 use Rattle.rules.specs.declared.combination.Combination.{Combination}
 use Rattle.rules.specs.Plain.{same_shift, same, listed, without}
 
@@ -24,23 +25,23 @@ same_is a b e =
 is_same : (a b : Combination) → a ≡ b → same a b ≡ true
 is_same a b e = ap (λ (x : Combination). same x b) e ∙ and_from _ _ (same_shift_itself b.jv) (eq-eqb b.entry b.entry refl)
 
+-- two tests that are true together
+both_true : (x y : Bool) → (x ≡ true → y ≡ true) → (y ≡ true → x ≡ true) → x ≡ y
+both_true true true f g = refl
+both_true true false f g = sym (f refl)
+both_true false true f g = g refl
+both_true false false f g = refl
+
+same_shift_eq : (a b : ℤ) → same_shift a b ≡ int_eq a b
+same_shift_eq a b =
+    let d = signed_Decides a b in
+    both_true (same_shift a b) (int_eq a b)
+    (λ e. d.1 (same_shift_is a b e))
+    (λ e. ap (λ x. same_shift x b) (d.0 e) ∙ same_shift_itself b)
+
 -- what `==` tells of two combinations
-abbrev pub Told : Combination → Combination → Bool → Type 0
-Told a b r =
-    cond r
-    (Decides true (a.jv ≡ b.jv) × Decides true (a.entry ≡ b.entry))
-    ((Decides false (a.jv ≡ b.jv) → ⊥) → (Decides false (a.entry ≡ b.entry) → ⊥) → ⊥)
-
-pub same_told : (a b : Combination) (r : Bool) → Told a b r → same a b ≡ r
-same_told a b true d = is_same a b (λ i. record { jv = d.0.0 refl i; entry = d.1.0 refl i })
-same_told a b false d = go (same a b) refl
-  where
-    never : {P : Type 0} → P → Decides false P → ⊥
-    never p q = false≢true (q.1 p)
-
-    go : (x : Bool) → same a b ≡ x → same a b ≡ false
-    go true e = absurd (d (never (ap (λ (c : Combination). c.jv) (same_is a b e))) (never (ap (λ (c : Combination). c.entry) (same_is a b e))))
-    go false e = e
+pub same_told : (a b : Combination) (r : Bool) → r ≡ (int_eq a.jv b.jv && eqb a.entry b.entry) → same a b ≡ r
+same_told a b r told = ap (λ (x : Bool). x && eqb a.entry b.entry) (same_shift_eq a.jv b.jv) ∙ sym told
 
 -- nothing before this place is the one looked for
 pub record Passed (wanted : Combination) (list : List Combination) (i : ℕ) : Type 0 where

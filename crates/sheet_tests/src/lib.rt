@@ -1,4 +1,6 @@
 // Sheets changed, refused and written, by example. Each expected answer is worked out by hand.
+#![tactic(auto)]
+
 #[cfg(test)]
 mod tests {
     use paper::combination::write_combination;

@@ -25,7 +25,7 @@ impl<B: Book> Passing<'_, B> {
     // The first place at which a line does not keep the compass, the trial or the key fixed there.
     fn first_unkept(&self, line: &[u8]) -> Option<usize>
         requires { length line.now ≡ places_of (closed self.now.sheet.now) }
-        ensures { result ≡ unkept (asking self.now.sheet.now self.now.compass.now (B.Book.admits self.now.book.now) (B.Book.allows self.now.book.now)) line.now }
+        ensures { result ≡ unkept (asking self.now.sheet.now self.now.compass.now (B.admits self.now.book.now) (B.allows self.now.book.now)) line.now }
     {
         for (place, cell) in line.iter().enumerate() {
             if !self.keeps_all(place, *cell) {
@@ -38,7 +38,7 @@ impl<B: Book> Passing<'_, B> {
     // The first place of a combination at which the book says no to the moment or to the succession out of it.
     fn first_denied(&self, line: &[u8], combination: Combination) -> Option<usize>
         requires { (length line.now ≡ places_of (closed self.now.sheet.now)) × ((combination.entry < places_of (closed self.now.sheet.now)) × (shift_in_range combination.jv ≡ true)) }
-        ensures { result ≡ denied (asking self.now.sheet.now self.now.compass.now (B.Book.admits self.now.book.now) (B.Book.allows self.now.book.now)) line.now combination }
+        ensures { result ≡ denied (asking self.now.sheet.now self.now.compass.now (B.admits self.now.book.now) (B.allows self.now.book.now)) line.now combination }
     {
         for (place, cell) in line.iter().enumerate() {
             let next = line[(place + 1) % line.len()];
@@ -52,7 +52,7 @@ impl<B: Book> Passing<'_, B> {
     // Sees that the book says yes everywhere in each listed combination.
     fn check_agreed(&self, line: &[u8]) -> Result<(), Refusal>
         requires { length line.now ≡ places_of (closed self.now.sheet.now) }
-        ensures { result ≡ answer tt (denied_in (asking self.now.sheet.now self.now.compass.now (B.Book.admits self.now.book.now) (B.Book.allows self.now.book.now)) line.now 0 (closed self.now.sheet.now).list) }
+        ensures { result ≡ answer tt (denied_in (asking self.now.sheet.now self.now.compass.now (B.admits self.now.book.now) (B.allows self.now.book.now)) line.now 0 (closed self.now.sheet.now).list) }
     {
         let combinations = self.sheet.combinations();
         for (number, combination) in combinations.iter().enumerate() {
@@ -75,7 +75,7 @@ fn check_places<'a, B: Book>(
     line: &[u8],
 ) -> Result<(), Refusal>
     requires { length line.now ≡ places_of (closed sheet.now) }
-    ensures { result ≡ answer tt (or_next (at_place NotKept (unkept (asking sheet.now compass.now (B.Book.admits book.now) (B.Book.allows book.now)) line.now)) (denied_in (asking sheet.now compass.now (B.Book.admits book.now) (B.Book.allows book.now)) line.now 0 (closed sheet.now).list)) }
+    ensures { result ≡ answer tt (or_next (at_place NotKept (unkept (asking sheet.now compass.now (B.admits book.now) (B.allows book.now)) line.now)) (denied_in (asking sheet.now compass.now (B.admits book.now) (B.allows book.now)) line.now 0 (closed sheet.now).list)) }
 {
     let passing = Passing {
         sheet,
@@ -95,9 +95,9 @@ pub fn check<B: Book>(
     compass: &Compass,
     line: &[u8],
 ) -> Result<(), Refusal>
-    ensures answer { result ≡ answer tt (check_no (asking sheet.now compass.now (B.Book.admits book.now) (B.Book.allows book.now)) line.now) }
-    ensures law { Checked (asking sheet.now compass.now (B.Book.admits book.now) (B.Book.allows book.now)) result line.now }
-    ensures course { Kept unweighed (closed_at (closed sheet.now)) (Check (handed compass.now (B.Book.admits book.now) (B.Book.allows book.now)) line.now) (told_done result) (closed_at (closed sheet.now)) }
+    ensures answer { result ≡ answer tt (check_no (asking sheet.now compass.now (B.admits book.now) (B.allows book.now)) line.now) }
+    ensures law { Checked (asking sheet.now compass.now (B.admits book.now) (B.allows book.now)) result line.now }
+    ensures course { Kept unweighed (closed_at (closed sheet.now)) (Check (handed compass.now (B.admits book.now) (B.allows book.now)) line.now) (told_done result) (closed_at (closed sheet.now)) }
 {
     let places = check_trial(sheet, compass)?;
     if line.len() != places {

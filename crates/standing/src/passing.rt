@@ -64,7 +64,7 @@ impl<B: Book> Passing<'_, B> {
     // Whether a cell keeps the compass, the trial and the key fixed at its place.
     pub(crate) fn keeps_all(&self, place: usize, cell: u8) -> bool
         requires { place < places_of (closed self.now.sheet.now) }
-        ensures { result ≡ kept_at (asking self.now.sheet.now self.now.compass.now (B.Book.admits self.now.book.now) (B.Book.allows self.now.book.now)) place cell }
+        ensures { result ≡ kept_at (asking self.now.sheet.now self.now.compass.now (B.admits self.now.book.now) (B.allows self.now.book.now)) place cell }
     {
         let key = cell / 2;
         let fixed = self.sheet.fixings()[place];
@@ -82,7 +82,7 @@ impl<B: Book> Passing<'_, B> {
         next: u8,
     ) -> bool
         requires { (place < places_of (closed self.now.sheet.now)) × ((combination.entry < places_of (closed self.now.sheet.now)) × (shift_in_range combination.jv ≡ true)) }
-        ensures { result ≡ agrees (asking self.now.sheet.now self.now.compass.now (B.Book.admits self.now.book.now) (B.Book.allows self.now.book.now)) place cell next combination }
+        ensures { result ≡ agrees (asking self.now.sheet.now self.now.compass.now (B.admits self.now.book.now) (B.allows self.now.book.now)) place cell next combination }
     {
         self.book
             .admits(moment(self.sheet, combination, place, cell))
@@ -94,7 +94,7 @@ impl<B: Book> Passing<'_, B> {
     // Whether the book says yes in each listed combination.
     fn agrees_in_all(&self, place: usize, cell: u8, next: u8) -> bool
         requires { place < places_of (closed self.now.sheet.now) }
-        ensures { result ≡ every (agrees (asking self.now.sheet.now self.now.compass.now (B.Book.admits self.now.book.now) (B.Book.allows self.now.book.now)) place cell next) (closed self.now.sheet.now).list }
+        ensures { result ≡ every (agrees (asking self.now.sheet.now self.now.compass.now (B.admits self.now.book.now) (B.allows self.now.book.now)) place cell next) (closed self.now.sheet.now).list }
     {
         let combinations = self.sheet.combinations();
         for combination in combinations {
@@ -107,7 +107,7 @@ impl<B: Book> Passing<'_, B> {
 }
 
 impl<B: Book> Passage for Passing<'_, B> {
-    ghost way = { λ s. way (asking s.sheet.now s.compass.now (B.Book.admits s.book.now) (B.Book.allows s.book.now)) };
+    ghost way = { λ s. way (asking s.sheet.now s.compass.now (B.admits s.book.now) (B.allows s.book.now)) };
 
     fn may(&self, place: usize, cell: usize, next: usize) -> bool {
         let places = self.sheet.theme().len();

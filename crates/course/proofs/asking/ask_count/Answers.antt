@@ -10,4 +10,4 @@ returns g c =
     let R = g.M.Measure.ring in
     let p = closed c.args.sheet.now in
     let h = handed c.args.compass.now (g.B.Book.admits c.args.book.now) (g.B.Book.allows c.args.book.now) in
-    kept_is R (closed_at p) refl c.of-number.ensures refl (count_kept R p h _ _ c.count.ensures.answer)
+    kept_is R (closed_at p) refl c.of_number.ensures refl (count_kept R p h _ _ c.count.ensures.answer)

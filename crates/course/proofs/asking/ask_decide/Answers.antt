@@ -13,4 +13,4 @@ returns g c =
     let p = closed c.args.sheet.now in
     let h = handed c.args.compass.now (g.B.Book.admits c.args.book.now) (g.B.Book.allows c.args.book.now) in
     let kept = decide_kept R p h _ _ _ _ c.decide-result.ensures.answer c.decide-result.ensures.law in
-    IfOk-weaker c.of-line.result _ _ (λ a is. kept_is R (closed_at p) refl (is ∙ ap (λ (line : List ℕ). told_line c.decide-result.result line) c.front.ensures) refl kept) c.of-line.ensures
+    IfOk-weaker c.of_line.result _ _ (λ a is. kept_is R (closed_at p) refl (is ∙ ap (λ (line : List ℕ). told_line c.decide-result.result line) c.front.ensures) refl kept) c.of_line.ensures

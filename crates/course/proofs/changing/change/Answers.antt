@@ -19,11 +19,11 @@ returns g c hand s =
     let sheet = drafted c.args.draft in
     let here = draft_at sheet in
     elim c.match-call.branch [
-      | in-Load w ↦ kept_is R here (ap (as_call hand s) w.in-Load.is) (ap told w.answer-is ∙ w.of-page-answer.ensures) (ap (λ (d : Draft). draft_at (drafted d)) w.draft-is) (load_kept R _ _ _ _ w.load.ensures.answer w.load.ensures.held)
-      | in-Add w ↦ kept_is R here (ap (as_call hand s) w.in-Add.is) (ap told w.answer-is ∙ w.add-to-answer.ensures.answer) (ap (λ (d : Draft). draft_at (drafted d)) w.draft-is) (add_kept R sheet _ _ _ _ refl w.add-to-answer.ensures.held)
-      | in-Drop w ↦ kept_is R here (ap (as_call hand s) w.in-Drop.is) (ap told w.answer-is ∙ w.drop-from-answer.ensures.answer) (ap (λ (d : Draft). draft_at (drafted d)) w.draft-is) (drop_kept R sheet _ _ _ _ refl w.drop-from-answer.ensures.held)
-      | in-Fix w ↦ kept_is R here (ap (as_call hand s) w.in-Fix.is) (ap told w.answer-is ∙ w.of-call-answer.ensures) (ap (λ (d : Draft). draft_at (drafted d)) w.draft-is) (fix_kept R _ _ _ _ _ w.fix.ensures.answer w.fix.ensures.held)
-      | in-Free w ↦ kept_is R here (ap (as_call hand s) w.in-Free.is) (ap told w.answer-is ∙ w.of-call-answer-in-Free.ensures) (ap (λ (d : Draft). draft_at (drafted d)) w.draft-is) (free_kept R _ _ _ _ w.free.ensures.answer w.free.ensures.held)
+      | in-Load w ↦ kept_is R here (ap (as_call hand s) w.in-Load.is) (ap told w.answer-is ∙ w.of_page-answer.ensures) (ap (λ (d : Draft). draft_at (drafted d)) w.draft-is) (load_kept R _ _ _ _ w.load.ensures.answer w.load.ensures.held)
+      | in-Add w ↦ kept_is R here (ap (as_call hand s) w.in-Add.is) (ap told w.answer-is ∙ w.add_to-answer.ensures.answer) (ap (λ (d : Draft). draft_at (drafted d)) w.draft-is) (add_kept R sheet _ _ _ _ refl w.add_to-answer.ensures.held)
+      | in-Drop w ↦ kept_is R here (ap (as_call hand s) w.in-Drop.is) (ap told w.answer-is ∙ w.drop_from-answer.ensures.answer) (ap (λ (d : Draft). draft_at (drafted d)) w.draft-is) (drop_kept R sheet _ _ _ _ refl w.drop_from-answer.ensures.held)
+      | in-Fix w ↦ kept_is R here (ap (as_call hand s) w.in-Fix.is) (ap told w.answer-is ∙ w.of_call-answer.ensures) (ap (λ (d : Draft). draft_at (drafted d)) w.draft-is) (fix_kept R _ _ _ _ _ w.fix.ensures.answer w.fix.ensures.held)
+      | in-Free w ↦ kept_is R here (ap (as_call hand s) w.in-Free.is) (ap told w.answer-is ∙ w.of_call-answer-in-Free.ensures) (ap (λ (d : Draft). draft_at (drafted d)) w.draft-is) (free_kept R _ _ _ _ w.free.ensures.answer w.free.ensures.held)
       | in-Reopen w ↦ kept_is R here (ap (as_call hand s) w.in-Reopen.is) (ap told w.answer-is) (ap (λ (d : Draft). draft_at (drafted d)) w.draft-is) (away_kept R here _ refl)
       | in-Ask w ↦ kept_is R here (ap (as_call hand s) w.in-Ask.is) (ap told w.answer-is) (ap (λ (d : Draft). draft_at (drafted d)) w.draft-is) (away_kept R here _ (ask_barred (hand _) s _ _))
     ]

@@ -14,25 +14,25 @@ use Rattle.course.specs.Naming.{as_question, asks, handing, hands}
 use Rattle.course.proofs.Barred.{hands_none}
 use Rattle.course.proofs.consulting.consult.Goals as goal
 
-pub returns-in-default : goal.returns-in-default
-returns-in-default g c =
+pub returns-in_default : goal.returns-in_default
+returns-in_default g c =
     let R = g.M.Measure.ring in
     let here = closed_at (closed c.args.sheet.now) in
     let ask = as_question (sizes_of c.args.memory.now c.args.line.now) c.args.query.room c.args.question in
     let compass = slice_get c.args.compasses.now c.args.query.compass in
-    let missing = slice_get_past c.args.books.now c.args.query.book c.in-default.ensures.lookup.3 in
+    let missing = slice_get_past c.args.books.now c.args.query.book c.in_default.ensures.lookup.3 in
     record {
       kept = kept_is R here (ap (λ (o : Option g.row.B.Denot). asks (hands g.B.Book.admits g.B.Book.allows o compass) ask) missing) refl refl (away_kept R here Unhanded refl);
       sizes = refl;
     }
 
-pub returns-in-default-get : goal.returns-in-default-get
-returns-in-default-get g c =
+pub returns-in_default-get : goal.returns-in_default-get
+returns-in_default-get g c =
     let R = g.M.Measure.ring in
     let here = closed_at (closed c.args.sheet.now) in
     let ask = as_question (sizes_of c.args.memory.now c.args.line.now) c.args.query.room c.args.question in
     let book = slice_get c.args.books.now c.args.query.book in
-    let missing = slice_get_past c.args.compasses.now c.args.query.compass c.in-default-get.ensures.lookup.3 in
+    let missing = slice_get_past c.args.compasses.now c.args.query.compass c.in_default-get.ensures.lookup.3 in
     let unhanded = ap (hands g.B.Book.admits g.B.Book.allows book) missing ∙ hands_none g.B.Book.admits g.B.Book.allows book in
     record {
       kept = kept_is R here (ap (λ (h : Option Handed). asks h ask) unhanded) refl refl (away_kept R here Unhanded refl);

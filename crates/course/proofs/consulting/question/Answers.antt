@@ -5,7 +5,7 @@ use Rattle.sheet.specs.Held.{closed}
 use Rattle.course.specs.declared.call.Call.{Call}
 use Rattle.course.specs.Holding.{sizes_of, told}
 use Rattle.course.specs.Naming.{as_call, handing}
-use Rattle.course.proofs.consulting.question.Goals.{in-Ask+in-ok-answer, in-Load}
+use Rattle.course.proofs.consulting.question.Goals.{in-Ask+in_ok-answer-in-Ask, in-Load}
 use Rattle.course.proofs.consulting.question.Goals as goal
 
 pub returns-in-Reopen : goal.returns-in-Reopen
@@ -25,10 +25,10 @@ returns g c =
     as_call (handing g.B.Book.admits g.B.Book.allows c.args.books.now c.args.compasses.now) (sizes_of c.args.memory.now c.args.line.now) in
     let barred : Call → Bool = λ call. lets true (name call) in
     elim c.match-call.branch [
-      | in-Ask+in-ok-answer w ↦
+      | in-Ask+in_ok-answer-in-Ask w ↦
           record {
-            kept = kept_is R here (ap name w.in-Ask.is) (ap told w.answer-is) refl w.in-ok-answer.ensures.kept;
-            sizes = (λ i. sizes_of (w.memory-is i) (w.line-is i)) ∙ w.in-ok-answer.ensures.sizes;
+            kept = kept_is R here (ap name w.in-Ask.is) (ap told w.answer-is) refl w.in_ok-answer-in-Ask.ensures.kept;
+            sizes = (λ i. sizes_of (w.memory-is i) (w.line-is i)) ∙ w.in_ok-answer-in-Ask.ensures.sizes;
           }
       | in-Load w ↦
           let away : barred c.args.call ≡ false =

@@ -16,15 +16,15 @@ loop-call-preserved g c =
     let calls = c.args.calls.now in
     let i = c.loop-call.call-index in
     let answers = vec_items c.loop-call.answers in
-    let step = c.in-ok-step.step in
+    let step = c.in_ok-step.step in
     let lent = c.loop-call.invariant.2 in
     let same : (x : Call) → name x ≡ as_call hand (sizes_of c.loop-call.memory c.loop-call.line) x =
     λ x. ap (λ (s : Sizes). as_call hand s x) (sym lent) in
-    let more = played_more R name (as_call hand (sizes_of c.loop-call.memory c.loop-call.line)) same calls i _ (map told answers) (told step.answer) _ _ (take_more calls i _ c.loop-call-test.true) c.loop-call.invariant.0 c.loop-call.invariant.1 c.in-ok-step.ensures.kept in
-    let told_is = ap (map told) c.in-ok-push.ensures.items ∙ map_push told answers step.answer in (
+    let more = played_more R name (as_call hand (sizes_of c.loop-call.memory c.loop-call.line)) same calls i _ (map told answers) (told step.answer) _ _ (take_more calls i _ c.loop-call-test.true) c.loop-call.invariant.0 c.loop-call.invariant.1 c.in_ok-step.ensures.kept in
+    let told_is = ap (map told) c.in_ok-push.ensures.items ∙ map_push told answers step.answer in (
       subst (λ (ts : List (Told g.row.M.Denot)). Faultless R Blank (map name (take (i + 1) calls)) ts) (sym told_is) more.0,
       more.1,
-      c.in-ok-step.ensures.sizes ∙ lent,
+      c.in_ok-step.ensures.sizes ∙ lent,
     )
 
 pub returns : goal.returns

@@ -9,7 +9,7 @@ use Rattle.paper.proofs.combination.put_rows.Goals as goal
 pub loop-place-preserved : goal.loop-place-preserved
 loop-place-preserved c =
     c.put.ensures
-    ∙ put_row (held c.args.theme.now).places c.args.combination c.args.out.now c.loop-place.out c.args.line.now c.met-row.result c.loop-place.place c.loop-place-test.true (omega arith) c.met-row.ensures c.loop-place.invariant
+    ∙ put_row (held c.args.theme.now).places c.args.combination c.args.out.now c.loop-place.out c.args.line.now c.met_row.result c.loop-place.place c.loop-place-test.true (omega arith) c.met_row.ensures c.loop-place.invariant
 
 pub returns : goal.returns
 returns c =

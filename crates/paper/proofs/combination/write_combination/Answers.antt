@@ -13,12 +13,12 @@ use Rattle.paper.proofs.Answered.{writing_stops, writing_accepted, line_fits, nu
 use Rattle.paper.proofs.Rows.{head_length, page_long, put_whole}
 use Rattle.paper.proofs.combination.write_combination.Goals as goal
 
-pub returns-in-err-check-line : goal.returns-in-err-check-line
-returns-in-err-check-line c =
-    let r = err_from_is_err_and c.from-residual.result c.from-residual.ensures.1 in
+pub returns-in_err-check_line : goal.returns-in_err-check_line
+returns-in_err-check_line c =
+    let r = err_from_is_err_and c.from_residual.result c.from_residual.ensures.1 in
     let p = closed c.args.sheet.now in
     let out = c.args.out.now in
-    let all = writing_stops p c.args.line.now c.args.number (length out) _ (answer_refused _ _ c.in-err-check-line.ensures) in
+    let all = writing_stops p c.args.line.now c.args.number (length out) _ (answer_refused _ _ c.in_err-check_line.ensures) in
     rw (r.1, r.2) (record {
       answer = sym (ap (λ (o : Option Refusal). answer (combination_length (places_of p)) o) all);
       written = refused_holds _ (fronted (combination_page p c.args.line.now c.args.number) out) out _ all;
@@ -33,13 +33,13 @@ head-requires c =
     let many : c.len.result ≡ places_of (closed c.args.sheet.now) = c.len.ensures.value ∙ ap (λ (t : PlainTheme). length t.places) c.theme-theme.ensures in
     (omega (arith, c.combinations-list.ensures.few), omega (arith, fits.1, many, c.len.ensures.few))
 
-pub put-rows-requires : goal.put-rows-requires
-put-rows-requires c =
+pub put_rows-requires : goal.put_rows-requires
+put_rows-requires c =
     let p = closed c.args.sheet.now in
     let below : c.args.number < length c.combinations-list.result.now = omega arith in
     let fits = numbered_in_range (places_of p) c.args.number c.combinations-list.result.now original c.combinations-list.ensures.in_range below in
     let many : c.len.result ≡ places_of p = c.len.ensures.value ∙ ap (λ (t : PlainTheme). length t.places) c.theme-theme.ensures in
-    let line = line_fits p c.args.line.now (answer_accepted _ c.in-ok-check-line.ensures) in (
+    let line = line_fits p c.args.line.now (answer_accepted _ c.in_ok-check_line.ensures) in (
       omega (arith, line.1, many, c.len.ensures.few),
       (omega (arith, line.0, many, c.len.ensures.value), (fits.0, (omega (arith, fits.1, many, c.len.ensures.few), omega (arith, line.1, many)))),
     )
@@ -51,7 +51,7 @@ returns c =
     let number : ℕ = c.args.number in
     let out : List ℕ = c.args.out.now in
     let headed : List ℕ = c.put.new.out in
-    let none = answer_accepted _ c.in-ok-check-line.ensures in
+    let none = answer_accepted _ c.in_ok-check_line.ensures in
     let fits = line_fits p line none in
     let list = c.combinations-list.ensures.value in
     let theme = c.theme-theme.ensures in
@@ -63,9 +63,9 @@ returns c =
     record {
       answer = (λ i. Ok (13 + 17 * many i)) ∙ sym (ap (λ (o : Option Refusal). answer (combination_length (places_of p)) o) all);
       written =
-          put_whole p line number out headed c.put-rows.new.out
+          put_whole p line number out headed c.put_rows.new.out
           (c.put.ensures ∙ (λ i. head i ++ drop (0 + length (head i)) out) ∙ (λ i. combination_head number (numbered p number) ++ drop (far i) out))
-          (c.put-rows.ensures ∙ (λ i. take 13 headed ++ combination_rows (theme i).places (get_or (list i) number original) 0 line ++ drop (combination_length (length line)) headed))
+          (c.put_rows.ensures ∙ (λ i. take 13 headed ++ combination_rows (theme i).places (get_or (list i) number original) 0 line ++ drop (combination_length (length line)) headed))
           ∙ accepted_holds _ (fronted (combination_page p line number) out) out all;
       long = (λ i. combination_length (many i)) ∙ sym (page_long p line number ∙ ap combination_length fits.1);
       within = omega arith;

@@ -25,7 +25,7 @@ returns-in-Err c =
     let r = Err c.in-Err.refusal in
     record {
       answer =
-          ap (λ (x : Refusal). Err x) c.sheet-refusal.ensures
+          ap (λ (x : Refusal). Err x) c.sheet_refusal.ensures
           ∙ page_answered p th r c.args.out.now c.theme.ensures e.answer;
       written = page_written p th r c.args.out.now c.theme.ensures e.answer c.write.new.out e.written;
       within = tt;

@@ -4,7 +4,7 @@ use Rattle.standing.specs.Held.{plain_compass}
 use Rattle.question.proofs.Stopping.{line_stops}
 use Rattle.question.proofs.asked.check_line.Goals as goal
 
-pub returns-in-err-places : goal.returns-in-err-places
-returns-in-err-places c =
-    let p = err_from_is_err_and c.from-residual.result c.from-residual.ensures.1 in
-    rw (p.1, p.2) (line_stops (closed c.args.sheet.now) (plain_compass c.args.compass.now) c.args.room c.args.cells _ c.in-err-places.ensures)
+pub returns-in_err-places : goal.returns-in_err-places
+returns-in_err-places c =
+    let p = err_from_is_err_and c.from_residual.result c.from_residual.ensures.1 in
+    rw (p.1, p.2) (line_stops (closed c.args.sheet.now) (plain_compass c.args.compass.now) c.args.room c.args.cells _ c.in_err-places.ensures)

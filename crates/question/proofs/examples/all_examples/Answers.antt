@@ -3,9 +3,9 @@ use Rattle.question.proofs.examples.all_examples.Goals as goal
 
 pub returns : goal.returns
 returns c = record {
-  answer = c.worked-examples.ensures.answer;
+  answer = c.worked_examples.ensures.answer;
   fact = record {
-    counterpoint = c.worked-examples.ensures.fact;
+    counterpoint = c.worked_examples.ensures.fact;
     octave_below = refl;
     a_place_later = refl;
   };

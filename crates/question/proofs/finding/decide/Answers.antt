@@ -19,13 +19,13 @@ use Rattle.question.proofs.Measured.{first_possible, first_movement}
 use Rattle.question.proofs.Stopping.{stopped_answers, stopped_line, found_answers, missing_answers, found_line, never_stopped}
 use Rattle.question.proofs.finding.decide.Goals as goal
 
-pub returns-in-err-places : goal.returns-in-err-places
-returns-in-err-places g c =
-    let p = err_from_is_err_and c.from-residual.result c.from-residual.ensures.1 in
+pub returns-in_err-places : goal.returns-in_err-places
+returns-in_err-places g c =
+    let p = err_from_is_err_and c.from_residual.result c.from_residual.ensures.1 in
     let h = handed c.args.compass.now (g.B.Book.admits c.args.book.now) (g.B.Book.allows c.args.book.now) in
     let a = asked_of (closed c.args.sheet.now) h in
     let o = first_no (line_questions a.sheet a.compass (length c.args.memory.now) (length c.args.line.now)) in
-    let stopped = c.in-err-places.ensures in
+    let stopped = c.in_err-places.ensures in
     let answer-is = stopped_answers o NoLineStands (first_standing a) _ stopped in
     let line_is = stopped_line o NoLineStands (first_standing a) _ stopped (written (first_standing a) c.args.line.now) c.args.line.now in
     let means = decide_means a (length c.args.memory.now) (length c.args.line.now) c.args.line.now _ _ answer-is line_is in
@@ -39,22 +39,22 @@ returns-in-err-places g c =
       refused = λ e some. refl;
     })
 
-pub returns-then-not-find-best : goal.returns-then-not-find-best
-returns-then-not-find-best g c =
+pub returns-then-not-find_best : goal.returns-then-not-find_best
+returns-then-not-find_best g c =
     let h = handed c.args.compass.now (g.B.Book.admits c.args.book.now) (g.B.Book.allows c.args.book.now) in
     let a = asked_of (closed c.args.sheet.now) h in
-    let known = c.in-ok-places.ensures in
-    let best = first_possible c.in-ok-places.places (standing_lines a) in
+    let known = c.in_ok-places.ensures in
+    let best = first_possible c.in_ok-places.places (standing_lines a) in
     let o = first_no (line_questions a.sheet a.compass (length c.args.memory.now) (length c.args.line.now)) in
-    let line_is = found_line o NoLineStands known.0 (first_standing a) c.args.line.now _ (c.find-best.ensures.line ∙ ap (λ (o : Option (List ℕ)). written o c.args.line.now) best) in
-    let answer-is = missing_answers o NoLineStands known.0 (first_standing a) (sym (c.find-best.ensures.answer ∙ ap is_some best) ∙ c.if-not-find-best.true) in
+    let line_is = found_line o NoLineStands known.0 (first_standing a) c.args.line.now _ (c.find_best.ensures.line ∙ ap (λ (o : Option (List ℕ)). written o c.args.line.now) best) in
+    let answer-is = missing_answers o NoLineStands known.0 (first_standing a) (sym (c.find_best.ensures.answer ∙ ap is_some best) ∙ c.if-not-find_best.true) in
     let means = decide_means a (length c.args.memory.now) (length c.args.line.now) c.args.line.now _ _ answer-is line_is in
     record {
       answer = answer-is;
       line = line_is;
       law = means;
       course = decide_kept unweighed (closed c.args.sheet.now) h (length c.args.memory.now) (length c.args.line.now) _ c.args.line.now answer-is means;
-      beyond = beyond_is c.args.memory.now _ known.1 c.find-best.ensures.beyond;
+      beyond = beyond_is c.args.memory.now _ known.1 c.find_best.ensures.beyond;
       refused = λ e some. never_stopped o NoLineStands known.0 e some;
     }
 
@@ -62,17 +62,17 @@ pub returns : goal.returns
 returns g c =
     let h = handed c.args.compass.now (g.B.Book.admits c.args.book.now) (g.B.Book.allows c.args.book.now) in
     let a = asked_of (closed c.args.sheet.now) h in
-    let known = c.in-ok-places.ensures in
-    let best = first_possible c.in-ok-places.places (standing_lines a) in
+    let known = c.in_ok-places.ensures in
+    let best = first_possible c.in_ok-places.places (standing_lines a) in
     let o = first_no (line_questions a.sheet a.compass (length c.args.memory.now) (length c.args.line.now)) in
-    let line_is = found_line o NoLineStands known.0 (first_standing a) c.args.line.now _ (c.find-best.ensures.line ∙ ap (λ (o : Option (List ℕ)). written o c.args.line.now) best) in
-    let answer-is = found_answers o NoLineStands known.0 (first_standing a) (sym (c.find-best.ensures.answer ∙ ap is_some best) ∙ c.if-not-find-best.false) in
+    let line_is = found_line o NoLineStands known.0 (first_standing a) c.args.line.now _ (c.find_best.ensures.line ∙ ap (λ (o : Option (List ℕ)). written o c.args.line.now) best) in
+    let answer-is = found_answers o NoLineStands known.0 (first_standing a) (sym (c.find_best.ensures.answer ∙ ap is_some best) ∙ c.if-not-find_best.false) in
     let means = decide_means a (length c.args.memory.now) (length c.args.line.now) c.args.line.now _ _ answer-is line_is in
     record {
       answer = answer-is;
       line = line_is;
       law = means;
       course = decide_kept unweighed (closed c.args.sheet.now) h (length c.args.memory.now) (length c.args.line.now) _ _ answer-is means;
-      beyond = beyond_is c.args.memory.now _ known.1 c.find-best.ensures.beyond;
+      beyond = beyond_is c.args.memory.now _ known.1 c.find_best.ensures.beyond;
       refused = λ e some. never_stopped o NoLineStands known.0 e some;
     }

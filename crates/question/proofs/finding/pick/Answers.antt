@@ -19,13 +19,13 @@ use Rattle.question.proofs.Measured.{first_possible, first_movement}
 use Rattle.question.proofs.Stopping.{stopped_answers, stopped_line, found_answers, missing_answers, found_line, never_stopped}
 use Rattle.question.proofs.finding.pick.Goals as goal
 
-pub returns-in-err-places : goal.returns-in-err-places
-returns-in-err-places g c =
-    let p = err_from_is_err_and c.from-residual.result c.from-residual.ensures.1 in
+pub returns-in_err-places : goal.returns-in_err-places
+returns-in_err-places g c =
+    let p = err_from_is_err_and c.from_residual.result c.from_residual.ensures.1 in
     let h = handed c.args.compass.now (g.B.Book.admits c.args.book.now) (g.B.Book.allows c.args.book.now) in
     let a = asked_of (closed c.args.sheet.now) h in
     let o = first_no (pick_questions a.sheet a.compass (length c.args.memory.now) (length c.args.line.now) c.args.number) in
-    let stopped = c.in-err-places.ensures in
+    let stopped = c.in_err-places.ensures in
     let answer-is = stopped_answers o NumberNotBelowCount (picked a c.args.number) _ stopped in
     let line_is = stopped_line o NumberNotBelowCount (picked a c.args.number) _ stopped (written (picked a c.args.number) c.args.line.now) c.args.line.now in
     let means = pick_means a (length c.args.memory.now) (length c.args.line.now) c.args.line.now _ _ c.args.number answer-is line_is in
@@ -39,21 +39,21 @@ returns-in-err-places g c =
       refused = λ e some. refl;
     })
 
-pub returns-then-not-find-numbered : goal.returns-then-not-find-numbered
-returns-then-not-find-numbered g c =
+pub returns-then-not-find_numbered : goal.returns-then-not-find_numbered
+returns-then-not-find_numbered g c =
     let h = handed c.args.compass.now (g.B.Book.admits c.args.book.now) (g.B.Book.allows c.args.book.now) in
     let a = asked_of (closed c.args.sheet.now) h in
-    let known = c.in-ok-places.ensures in
+    let known = c.in_ok-places.ensures in
     let o = first_no (pick_questions a.sheet a.compass (length c.args.memory.now) (length c.args.line.now) c.args.number) in
-    let line_is = found_line o NumberNotBelowCount known.0 (picked a c.args.number) c.args.line.now _ c.find-numbered.ensures.line in
-    let answer-is = missing_answers o NumberNotBelowCount known.0 (picked a c.args.number) (sym c.find-numbered.ensures.answer ∙ c.if-not-find-numbered.true) in
+    let line_is = found_line o NumberNotBelowCount known.0 (picked a c.args.number) c.args.line.now _ c.find_numbered.ensures.line in
+    let answer-is = missing_answers o NumberNotBelowCount known.0 (picked a c.args.number) (sym c.find_numbered.ensures.answer ∙ c.if-not-find_numbered.true) in
     let means = pick_means a (length c.args.memory.now) (length c.args.line.now) c.args.line.now _ _ c.args.number answer-is line_is in
     record {
       answer = answer-is;
       line = line_is;
       law = means;
       course = pick_kept unweighed (closed c.args.sheet.now) h (length c.args.memory.now) (length c.args.line.now) c.args.number _ c.args.line.now answer-is means;
-      beyond = beyond_is c.args.memory.now _ known.1 c.find-numbered.ensures.beyond;
+      beyond = beyond_is c.args.memory.now _ known.1 c.find_numbered.ensures.beyond;
       refused = λ e some. never_stopped o NumberNotBelowCount known.0 e some;
     }
 
@@ -61,16 +61,16 @@ pub returns : goal.returns
 returns g c =
     let h = handed c.args.compass.now (g.B.Book.admits c.args.book.now) (g.B.Book.allows c.args.book.now) in
     let a = asked_of (closed c.args.sheet.now) h in
-    let known = c.in-ok-places.ensures in
+    let known = c.in_ok-places.ensures in
     let o = first_no (pick_questions a.sheet a.compass (length c.args.memory.now) (length c.args.line.now) c.args.number) in
-    let line_is = found_line o NumberNotBelowCount known.0 (picked a c.args.number) c.args.line.now _ c.find-numbered.ensures.line in
-    let answer-is = found_answers o NumberNotBelowCount known.0 (picked a c.args.number) (sym c.find-numbered.ensures.answer ∙ c.if-not-find-numbered.false) in
+    let line_is = found_line o NumberNotBelowCount known.0 (picked a c.args.number) c.args.line.now _ c.find_numbered.ensures.line in
+    let answer-is = found_answers o NumberNotBelowCount known.0 (picked a c.args.number) (sym c.find_numbered.ensures.answer ∙ c.if-not-find_numbered.false) in
     let means = pick_means a (length c.args.memory.now) (length c.args.line.now) c.args.line.now _ _ c.args.number answer-is line_is in
     record {
       answer = answer-is;
       line = line_is;
       law = means;
       course = pick_kept unweighed (closed c.args.sheet.now) h (length c.args.memory.now) (length c.args.line.now) c.args.number _ _ answer-is means;
-      beyond = beyond_is c.args.memory.now _ known.1 c.find-numbered.ensures.beyond;
+      beyond = beyond_is c.args.memory.now _ known.1 c.find_numbered.ensures.beyond;
       refused = λ e some. never_stopped o NumberNotBelowCount known.0 e some;
     }

@@ -14,11 +14,11 @@ use Rattle.question.proofs.Measured.{weighed_number}
 use Rattle.question.proofs.Stopping.{accepted_is, stopped_is}
 use Rattle.question.proofs.weighing.count.Goals as goal
 
-pub returns-in-err-places : goal.returns-in-err-places
-returns-in-err-places g c =
-    let p = err_from_is_err_and c.from-residual.result c.from-residual.ensures.1 in
+pub returns-in_err-places : goal.returns-in_err-places
+returns-in_err-places g c =
+    let p = err_from_is_err_and c.from_residual.result c.from_residual.ensures.1 in
     let h = handed c.args.compass.now (g.B.Book.admits c.args.book.now) (g.B.Book.allows c.args.book.now) in
-    let answer-is = stopped_is _ _ _ c.in-err-places.ensures in
+    let answer-is = stopped_is _ _ _ c.in_err-places.ensures in
     rw (p.1, p.2)
     (record {
       answer = answer-is;
@@ -32,13 +32,13 @@ pub returns : goal.returns
 returns g c =
     let h = handed c.args.compass.now (g.B.Book.admits c.args.book.now) (g.B.Book.allows c.args.book.now) in
     let a = asked_of (closed c.args.sheet.now) h in
-    let known = c.in-ok-places.ensures in
-    let value = ap (λ (x : Number). x.value) c.weigh-all.ensures.answer ∙ weighed_number c.in-ok-places.places (standing_lines a) in
+    let known = c.in_ok-places.ensures in
+    let value = ap (λ (x : Number). x.value) c.weigh_all.ensures.answer ∙ weighed_number c.in_ok-places.places (standing_lines a) in
     let answer-is = accepted_is _ _ _ value known.0 in
     record {
       answer = answer-is;
       course = count_kept unweighed (closed c.args.sheet.now) h (length c.args.memory.now) _ answer-is;
       law = listed_exactly a;
-      beyond = beyond_is c.args.memory.now _ known.1 c.weigh-all.ensures.beyond;
+      beyond = beyond_is c.args.memory.now _ known.1 c.weigh_all.ensures.beyond;
       refused = λ never. absurd (true≢false never);
     }

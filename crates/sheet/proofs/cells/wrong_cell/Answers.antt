@@ -9,16 +9,16 @@ next before place cells lawful below is =
     at_drop_more (wrong_from before place) cells place 0 below
     ∙ ap (λ (b : Bool). cond b (wrong_from (Some (get_or cells place 0)) (place + 1) (drop (place + 1) cells)) (Some place)) (sym is)
 
-pub returns-then-not-is-lawful : goal.returns-then-not-is-lawful
-returns-then-not-is-lawful c =
+pub returns-then-not-is_lawful : goal.returns-then-not-is_lawful
+returns-then-not-is_lawful c =
     let l = c.loop-place in
-    let on = next l.before l.place c.args.cells.now false c.loop-place-test.true (sym c.if-not-is-lawful.true ∙ c.is-lawful.ensures) in
+    let on = next l.before l.place c.args.cells.now false c.loop-place-test.true (sym c.if-not-is_lawful.true ∙ c.is_lawful.ensures) in
     sym on ∙ l.invariant
 
 pub loop-place-preserved : goal.loop-place-preserved
 loop-place-preserved c =
     let l = c.loop-place in
-    let on = next l.before l.place c.args.cells.now true c.loop-place-test.true (sym c.if-not-is-lawful.false ∙ c.is-lawful.ensures) in
+    let on = next l.before l.place c.args.cells.now true c.loop-place-test.true (sym c.if-not-is_lawful.false ∙ c.is_lawful.ensures) in
     sym on ∙ l.invariant
 
 pub returns : goal.returns

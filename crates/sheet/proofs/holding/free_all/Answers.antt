@@ -4,4 +4,4 @@ use Rattle.sheet.proofs.holding.free_all.Goals as goal
 
 pub loop-preserved : goal.loop-preserved
 loop-preserved c =
-    (c.push-reserved.ensures.items ∙ ap (λ (xs : List (Option ℕ)). xs ++ None ∷ []) c.loop.invariant.0 ∙ replicate_more c.loop.counter None, search rules, search rules)
+    (c.push_reserved.ensures.items ∙ ap (λ (xs : List (Option ℕ)). xs ++ None ∷ []) c.loop.invariant.0 ∙ replicate_more c.loop.counter None, search rules, search rules)

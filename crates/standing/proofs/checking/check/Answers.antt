@@ -8,12 +8,12 @@ use Rattle.standing.specs.Asking.{handed}
 use Rattle.standing.proofs.Checks.{check_means, check_stops, check_counts, check_looks}
 use Rattle.standing.proofs.checking.check.Goals as goal
 
-pub returns-in-err-places : goal.returns-in-err-places
-returns-in-err-places g c =
-    let p = err_from_is_err_and c.from-residual.result c.from-residual.ensures.1 in
+pub returns-in_err-places : goal.returns-in_err-places
+returns-in_err-places g c =
+    let p = err_from_is_err_and c.from_residual.result c.from_residual.ensures.1 in
     let h = handed c.args.compass.now (g.B.Book.admits c.args.book.now) (g.B.Book.allows c.args.book.now) in
     let a = asked_of (closed c.args.sheet.now) h in
-    let told = check_stops a c.args.line.now _ c.in-err-places.ensures in
+    let told = check_stops a c.args.line.now _ c.in_err-places.ensures in
     let means = check_means a c.args.line.now _ told in
     rw (p.1, p.2) (record { answer = told; law = means; course = check_kept unweighed (closed c.args.sheet.now) h _ c.args.line.now told means })
 
@@ -21,7 +21,7 @@ pub returns-in-Some : goal.returns-in-Some
 returns-in-Some g c =
     let h = handed c.args.compass.now (g.B.Book.admits c.args.book.now) (g.B.Book.allows c.args.book.now) in
     let a = asked_of (closed c.args.sheet.now) h in
-    let known = c.in-ok-places.ensures in
+    let known = c.in_ok-places.ensures in
     let told = check_looks a c.args.line.now known.0 (c.if-line-places.false ∙ known.1) (Some c.in-Some.place) c.in-Some.ensures in
     let means = check_means a c.args.line.now _ told in
     record { answer = told; law = means; course = check_kept unweighed (closed c.args.sheet.now) h _ c.args.line.now told means }
@@ -30,8 +30,8 @@ pub returns : goal.returns
 returns g c =
     let h = handed c.args.compass.now (g.B.Book.admits c.args.book.now) (g.B.Book.allows c.args.book.now) in
     let a = asked_of (closed c.args.sheet.now) h in
-    let known = c.in-ok-places.ensures in
-    let told = c.check-places.ensures ∙ check_looks a c.args.line.now known.0 (c.if-line-places.false ∙ known.1) None c.in-default.ensures in
+    let known = c.in_ok-places.ensures in
+    let told = c.check_places.ensures ∙ check_looks a c.args.line.now known.0 (c.if-line-places.false ∙ known.1) None c.in_default.ensures in
     let means = check_means a c.args.line.now _ told in
     record { answer = told; law = means; course = check_kept unweighed (closed c.args.sheet.now) h _ c.args.line.now told means }
 
@@ -39,7 +39,7 @@ pub returns-then-line-places : goal.returns-then-line-places
 returns-then-line-places g c =
     let h = handed c.args.compass.now (g.B.Book.admits c.args.book.now) (g.B.Book.allows c.args.book.now) in
     let a = asked_of (closed c.args.sheet.now) h in
-    let known = c.in-ok-places.ensures in
+    let known = c.in_ok-places.ensures in
     let told = check_counts a c.args.line.now known.0 (λ same. c.if-line-places.true (same ∙ sym known.1)) in
     let means = check_means a c.args.line.now _ told in
     record { answer = told; law = means; course = check_kept unweighed (closed c.args.sheet.now) h _ c.args.line.now told means }

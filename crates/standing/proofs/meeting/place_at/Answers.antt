@@ -7,6 +7,6 @@ use Rattle.standing.proofs.meeting.place_at.Goals as goal
 
 pub returns : goal.returns
 returns c =
-    c.unwrap-or.ensures
+    c.unwrap_or.ensures
     ∙ ap (λ (o : Option Place). unwrap_or o (record { key = 0; mark = Pin })) c.place.ensures
     ∙ nth_or (held c.args.theme.now).places c.args.number (record { key = 0; mark = Pin })

@@ -9,48 +9,41 @@ use Rattle.sheet.proofs.Listing.{same_told}
 use Rattle.sheet.proofs.Refused.{refused_answers, refused_holds, accepted_answers, accepted_holds, drop_stops, drop_accepted, in_range_without, left_without}
 use Rattle.sheet.proofs.content.Content.drop_combination.Goals as goal
 
-pub returns-in-err-combination : goal.returns-in-err-combination
-returns-in-err-combination c =
-    let p = err_from_is_err_and c.from-residual.result c.from-residual.ensures.1 in
+pub returns-in_err-combination : goal.returns-in_err-combination
+returns-in_err-combination c =
+    let p = err_from_is_err_and c.from_residual.result c.from_residual.ensures.1 in
     let sheet = contents c.args.self.now in
-    let asked : first_no (combination_questions sheet c.args.jv c.args.entry) ≡ Some c.in-err-combination.field-0.0 =
-    simp (to_z-of_z, c.ranges.jv, c.ranges.entry) at c.in-err-combination.ensures in
+    let asked : first_no (combination_questions sheet c.args.jv c.args.entry) ≡ Some c.in_err-combination.field-0.0 =
+    simp (to_z-of_z, c.ranges.jv, c.ranges.entry) at c.in_err-combination.ensures in
     let all = drop_stops sheet c.args.jv c.args.entry _ asked in
     rw (p.1, p.2) (record { answer = refused_answers _ sheet sheet _ all; held = refused_holds _ (dropped sheet c.args.jv c.args.entry) sheet _ all })
 
-pub invariant-of-self : goal.invariant-of-self
-invariant-of-self c =
+pub invariant_of-self : goal.invariant_of-self
+invariant_of-self c =
     let sheet = contents c.args.self.now in
-    let known : (first_no (combination_questions sheet c.args.jv c.args.entry) ≡ None) × (c.in-ok-combination.combination ≡ combination_of c.args.jv c.args.entry) =
-    simp (to_z-of_z, c.ranges.jv, c.ranges.entry) at c.in-ok-combination.ensures in
+    let known : (first_no (combination_questions sheet c.args.jv c.args.entry) ≡ None) × (c.in_ok-combination.combination ≡ combination_of c.args.jv c.args.entry) =
+    simp (to_z-of_z, c.ranges.jv, c.ranges.entry) at c.in_ok-combination.ensures in
     let left = left_without sheet.list _ (vec_items c.remove.new.self) _ _ c.in-Some.number c.deref.ensures.value known.1 c.remove.ensures.items c.in-Some.ensures.2 in
-    let p = c.remove.ensures in (
-      omega (arith, p.capacity, c.args.self.now.list_room),
-      (
-        c.args.self.now.fixing_room,
-        (
-          omega (arith, p.len, c.args.self.now.few),
-          (
-            c.args.self.now.level,
-            (
-              ap (all_in_range (places_of sheet)) left
-                  ∙ in_range_without (places_of sheet) (combination_of c.args.jv c.args.entry) sheet.list c.args.self.now.in_range,
-              tt,
-            ),
-          ),
-        ),
-      ),
-    )
+    let p = c.remove.ensures in
+    record {
+      list_room = omega (arith, p.capacity, c.args.self.now.list_room);
+      fixing_room = c.args.self.now.fixing_room;
+      few = omega (arith, p.len, c.args.self.now.few);
+      level = c.args.self.now.level;
+      in_range =
+          ap (all_in_range (places_of sheet)) left
+          ∙ in_range_without (places_of sheet) (combination_of c.args.jv c.args.entry) sheet.list c.args.self.now.in_range;
+    }
 
 pub returns : goal.returns
 returns c =
     let sheet = contents c.args.self.now in
-    let known : (first_no (combination_questions sheet c.args.jv c.args.entry) ≡ None) × (c.in-ok-combination.combination ≡ combination_of c.args.jv c.args.entry) =
-    simp (to_z-of_z, c.ranges.jv, c.ranges.entry) at c.in-ok-combination.ensures in
+    let known : (first_no (combination_questions sheet c.args.jv c.args.entry) ≡ None) × (c.in_ok-combination.combination ≡ combination_of c.args.jv c.args.entry) =
+    simp (to_z-of_z, c.ranges.jv, c.ranges.entry) at c.in_ok-combination.ensures in
     let left = left_without sheet.list _ (vec_items c.remove.new.self) _ _ c.in-Some.number c.deref.ensures.value known.1 c.remove.ensures.items c.in-Some.ensures.2 in
     let list = c.deref.ensures.value in
     let is = sym (λ i. listed (known.1 i) (list i)) ∙ c.in-Some.ensures.0 in
-    let other = sym (ap (λ (x : Combination). same x original) known.1) ∙ same_told c.in-ok-combination.combination original c.eq.result c.eq.ensures ∙ c.if-eq.false in
+    let other = sym (ap (λ (x : Combination). same x original) known.1) ∙ same_told c.in_ok-combination.combination original c.eq.result c.eq.ensures ∙ c.if-eq.false in
     let all = drop_accepted sheet c.args.jv c.args.entry known.0 is other in
     record {
       answer = accepted_answers _ sheet sheet all;

@@ -12,6 +12,6 @@ returns c =
     let sheet = contents c.args.self.now.content in
     let jv-is = to_z-of_z _ c.args.jv c.ranges.jv in
     let entry-is = to_z-of_z _ c.args.entry c.ranges.entry in
-    let answered = c.drop-combination.ensures.answer ∙ (λ i. answer tt (first_no (drop_questions sheet (jv-is i) (entry-is i)))) in
-    let holds = c.drop-combination.ensures.held ∙ (λ i. unless (first_no (drop_questions sheet (jv-is i) (entry-is i))) (dropped sheet (jv-is i) (entry-is i)) sheet) in
+    let answered = c.drop_combination.ensures.answer ∙ (λ i. answer tt (first_no (drop_questions sheet (jv-is i) (entry-is i)))) in
+    let holds = c.drop_combination.ensures.held ∙ (λ i. unless (first_no (drop_questions sheet (jv-is i) (entry-is i))) (dropped sheet (jv-is i) (entry-is i)) sheet) in
     record { answer = answered; held = holds; course = drop_kept unweighed sheet c.args.jv c.args.entry _ _ answered holds }

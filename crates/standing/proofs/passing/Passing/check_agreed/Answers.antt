@@ -2,8 +2,8 @@ use Rattle.standing.proofs.Agreeing.{next_in_range}
 use Rattle.standing.proofs.Looking.{refused_here, undenied_more, undenied_all}
 use Rattle.standing.proofs.passing.Passing.check_agreed.Goals as goal
 
-pub first-denied-requires : goal.first-denied-requires
-first-denied-requires g c =
+pub first_denied-requires : goal.first_denied-requires
+first_denied-requires g c =
     let in_range = next_in_range _ _ _ c.loop-number.invariant.in_range c.loop-number-test.true in
     (c.requires, (in_range.0, in_range.1))
 
@@ -13,7 +13,7 @@ returns-in-Some g c =
 
 pub loop-number-preserved : goal.loop-number-preserved
 loop-number-preserved g c =
-    undenied_more c.loop-number.invariant c.loop-number-test.true c.in-default.ensures
+    undenied_more c.loop-number.invariant c.loop-number-test.true c.in_default.ensures
 
 pub returns : goal.returns
 returns g c = undenied_all c.loop-number.invariant c.loop-number-test.false c.combinations-combinations.ensures.value
