@@ -2,6 +2,7 @@
 use crate::case::{Case, Line, MOST, ROOM};
 use crate::dice::Dice;
 use crate::judging::{beginning, judge, least_moved, string, strings};
+use anyhow::bail;
 use counterpoint::book::Book;
 use measure::algebra::Measure;
 use measure::movement::Movement;
@@ -34,7 +35,10 @@ pub struct Asked<'a, B> {
 
 // Says no where two answers are not the same.
 fn agree(same: bool, otherwise: &str) -> anyhow::Result<()> {
-    if same { Ok(()) } else { Err(otherwise.into()) }
+    if !same {
+        bail!("{otherwise}");
+    }
+    Ok(())
 }
 
 // A string of cells of any kind, of which many hold the key before.

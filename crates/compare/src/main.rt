@@ -1,4 +1,6 @@
 // Holds the answers of the calls against those of a second engine, which tries every line.
+#![tactic(auto)]
+
 mod asking;
 mod case;
 mod dice;

@@ -1,4 +1,6 @@
 // Reads a theme page from standard input and writes it back, or says why it is refused.
+#![tactic(auto)]
+
 ghost use Rattle.std.specs.Prelude.{◌≤◌, length, IfOk};
 
 use std::io;

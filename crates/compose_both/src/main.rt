@@ -1,5 +1,7 @@
 // Reads a theme page from standard input, adds the combination an octave lower, and writes both combinations
 // of the line that moves least over the strict book, or says why there is none.
+#![tactic(auto)]
+
 ghost use Rattle.std.specs.Prelude.{◌≤◌, length, IfOk};
 
 use books::strict::Strict;

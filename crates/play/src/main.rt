@@ -1,4 +1,6 @@
 // Plays a script of calls: reads it from standard input, makes its calls, and prints each line with its answer.
+#![tactic(auto)]
+
 mod playing;
 mod printing;
 mod reading;

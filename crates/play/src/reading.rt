@@ -54,7 +54,12 @@ fn take_line(rt: &HostRuntime, script: &mut Script, text: String) -> Result<(), 
 pub fn read_script(rt: &HostRuntime, script: &mut Script) -> Result<(), Halt>
     ensures { IfErr result (λ halt. (0 < halt.number) × (halt.number ≤ 65536)) }
 {
-    let input = BufReader::new(rt.stdin().take(SCRIPT));
+    let Ok(input) = BufReader::new(rt.alloc(), rt.stdin().take(SCRIPT)) else {
+        return Err(Halt {
+            number: 1,
+            fault: Fault::Memory,
+        });
+    };
     for (number, line) in (1..=SCRIPT).zip(input.lines(rt.alloc())) {
         let taken = match line {
             Ok(text) => take_line(rt, script, text),

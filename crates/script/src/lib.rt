@@ -1,5 +1,7 @@
 // Scripts of calls: what their lines say, what questions are handed, and how answers are shown.
 // Knows nothing of files or of how a course is played.
+#![tactic(auto)]
+
 pub mod book;
 pub mod fault;
 pub mod gathering;
