@@ -1,6 +1,6 @@
 -- What the law of books tells of a question that is answered with yes.
 -- Assumes nothing.
-use Rattle.std.proofs.Common.{◌≡◌, Bool, true, false, sym, ◌∙◌, ⊎_elim, true≢false}
+use Rattle.std.proofs.Common.{◌≡◌, Bool, true, false, ◌∙◌, ⊎_elim, true≢false}
 use Rattle.std.proofs.lemmas.Bool.{cases_Bool, and_parts}
 use Rattle.counterpoint.specs.Books.{Bounded}
 use Rattle.counterpoint.specs.Moments.{moment_in_range, succession_in_range}

@@ -1,6 +1,6 @@
 -- A conjunction by its parts, as `&&` looks at them.
 -- Assumes nothing.
-use Rattle.std.proofs.Common.{◌≡◌, Bool, true, false, ◌&&◌, refl}
+use Rattle.std.proofs.Common.{◌≡◌, Bool, true, false, ◌&&◌}
 
 pub and_taken : (a b r : Bool) → true ≡ a → r ≡ b → r ≡ (a && b)
 and_taken true b r t e = e

@@ -2,7 +2,7 @@
 -- Assumes nothing.
 use Rattle.std.specs.Prelude.{Bool, cond, not, ◌&&◌, ◌||◌, ℤ, ◌==◌, nat_le, unsigned_abs}
 use Rattle.counterpoint.specs.Interval.{consonant, dissonant, perfect}
-use Rattle.counterpoint.specs.Moments.{held, strong, one_held, second_interval, second_moment, moment_in_range, succession_in_range}
+use Rattle.counterpoint.specs.Moments.{held, strong, one_held, second_moment, moment_in_range, succession_in_range}
 use Rattle.books.specs.Motion.{down, similar, both_move, one_perfect_class}
 use Rattle.counterpoint.specs.declared.moments.Moment.{Moment}
 use Rattle.counterpoint.specs.declared.moments.Succession.{Succession}

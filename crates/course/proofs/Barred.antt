@@ -1,5 +1,5 @@
 -- Calls that are not let through. Assumes nothing.
-use Rattle.std.proofs.Common.{◌≡◌, ℕ, Bool, true, false, Some, None, Option, refl}
+use Rattle.std.proofs.Common.{◌≡◌, ℕ, Bool, false, Some, None, Option, refl}
 use Rattle.rules.specs.Courses.{Handed, lets}
 use Rattle.counterpoint.specs.declared.moments.Moment.{Moment}
 use Rattle.counterpoint.specs.declared.moments.Succession.{Succession}

@@ -1,6 +1,6 @@
 -- Values of a choosing measure: which of them are the join. Assumes nothing.
-use Rattle.std.proofs.Common.{◌≡◌, ℕ, zero, suc, ◌+◌, ◌<◌, ◌≤◌, Bool, true, false, cond, ◌||◌, ◌⊎◌, List, [], ◌∷◌, map, is_some, Some, Option, sym, refl, ap, ◌∙◌, subst, ap₂, ⊎_elim, arith}
-use Rattle.std.proofs.lemmas.Bool.{cases_Bool, cases_cond, cases_eq, cond-false, cond-true, false≢true, both_ways}
+use Rattle.std.proofs.Common.{◌≡◌, ℕ, zero, suc, ◌<◌, Bool, true, false, cond, ◌||◌, List, [], ◌∷◌, map, is_some, Some, Option, sym, refl, ap, ◌∙◌, ap₂, ⊎_elim, arith}
+use Rattle.std.proofs.lemmas.Bool.{cases_Bool, cases_cond, cases_eq, cond-true}
 use Rattle.measure.specs.Algebra.{Ring, joined}
 use Rattle.engine.specs.Tables.{sum}
 use Rattle.engine.specs.Weights.{first_with}

@@ -5,9 +5,9 @@ use Rattle.std.proofs.ByRecursion.{All-weaker}
 use Rattle.std.proofs.lemmas.List.{append_assoc, append-nil, take_more_set}
 use Rattle.std.proofs.lemmas.Bool.{and_parts, both_ways, cases_Bool, cases_lt}
 use Rattle.std.specs.Option.{option_map}
-use Rattle.std.specs.List.{flat_map as spread, AllByRecursion as All}
+use Rattle.std.specs.List.{AllByRecursion as All}
 use Rattle.measure.specs.Algebra.{Ring, joined, walked}
-use Rattle.engine.specs.Lines.{Way, leap, roster, upto}
+use Rattle.engine.specs.Lines.{Way, leap, roster}
 use Rattle.engine.specs.Tables.{crossing, rest, round, sum}
 use Rattle.engine.specs.Tails.{attains, begun_by, best_from, line_worth, tails, worth}
 use Rattle.engine.specs.Weights.{first_best, first_with, joined_weight, steps, weight}

@@ -1,5 +1,5 @@
 -- When the engine says that it cannot answer, and what a line buffer holds afterwards. Assumes nothing.
-use Rattle.std.specs.Prelude.{ℕ, ◌*◌, ◌≤◌, Bool, cond, ◌&&◌, List, [], ◌∷◌, ◌++◌, length, drop, Some, None, Ok, Err, Option, Result, nat_le}
+use Rattle.std.specs.Prelude.{ℕ, ◌*◌, Bool, cond, ◌&&◌, List, [], ◌∷◌, ◌++◌, length, drop, Some, None, Ok, Err, Option, Result, nat_le}
 use Rattle.engine.specs.declared.unfit.Unfit.{Unfit}
 use Rattle.engine.specs.declared.unfit.Unfit.TheVariants.{Line, Memory, Number, Places}
 

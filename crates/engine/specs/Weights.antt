@@ -1,7 +1,7 @@
 -- What lines weigh, and what is asked of the lines that go round. Assumes nothing.
 use Rattle.std.specs.Prelude.{ℕ, Bool, cond, List, [], ◌∷◌, map, Some, None, Option}
 use Rattle.measure.specs.Algebra.{Ring, joined, walked}
-use Rattle.engine.specs.Lines.{Way, hops, leap, roster}
+use Rattle.engine.specs.Lines.{hops, leap}
 
 -- the sizes of a line's steps, in order
 abbrev pub steps : ℕ → List ℕ → List ℕ

@@ -1,5 +1,5 @@
 -- One word of verdicts: its bit d says yes or no to the cell d. Assumes nothing.
-use Rattle.std.specs.Prelude.{ℕ, zero, suc, ◌+◌, ◌*◌, ◌/◌, ◌%◌, Bool, false, ◌&&◌, List, ◌==◌, nat_lt, slice_index}
+use Rattle.std.specs.Prelude.{ℕ, zero, suc, ◌+◌, ◌*◌, ◌/◌, ◌%◌, Bool, ◌&&◌, List, ◌==◌, nat_lt, slice_index}
 use Rattle.engine.specs.Lines.{Way}
 
 -- bit d of a word, from the lowest

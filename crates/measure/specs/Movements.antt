@@ -1,7 +1,7 @@
 -- Sums of step sizes up to a cap: the smaller joins, the sum chains, and the cap is none. Assumes nothing.
-use Rattle.std.specs.Prelude.{◌≡◌, ℕ, ◌+◌, ◌≤◌, min, Bool, nat_le, refl}
+use Rattle.std.specs.Prelude.{◌≡◌, ℕ, ◌+◌, ◌≤◌, min, Bool, nat_le}
 use mathlib.Core.HLevel.{is_prop→PathP}
-use Rattle.std.proofs.Common.{ap, sym, ◌∙◌, arith}
+use Rattle.std.proofs.Common.{arith}
 use Rattle.std.proofs.Math.Bridge.{le_prop}
 use Rattle.measure.specs.Algebra.{Ring}
 use Rattle.measure.specs.declared.movement.Movement.{Movement}

@@ -1,7 +1,7 @@
 -- Numbers up to a cap: the sum joins, the product chains, and every step counts for one. Assumes nothing.
-use Rattle.std.specs.Prelude.{◌≡◌, ℕ, ◌+◌, ◌*◌, ◌<◌, ◌≤◌, min, ◌⊎◌, refl}
+use Rattle.std.specs.Prelude.{◌≡◌, ℕ, ◌+◌, ◌*◌, ◌<◌, ◌≤◌, min}
 use mathlib.Core.HLevel.{is_prop→PathP}
-use Rattle.std.proofs.Common.{inl, inr, ⊎_elim, ap, sym, ◌∙◌, add-mul, mul-add, mul_assoc, mul_comm, mul-le-mul_left, zero-mul, arith}
+use Rattle.std.proofs.Common.{⊎_elim, ap, sym, ◌∙◌, add-mul, mul-add, mul_assoc, mul_comm, mul-le-mul_left, zero-mul, arith}
 use Rattle.std.proofs.Math.Bridge.{le_prop}
 use Rattle.std.proofs.lemmas.Bool.{cases_lt}
 use Rattle.measure.specs.Algebra.{Ring}

@@ -1,5 +1,5 @@
 -- Yes-or-no: or joins, and chains, and every step is yes. Assumes nothing.
-use Rattle.std.specs.Prelude.{◌≡◌, ℕ, Bool, true, false, not, ◌&&◌, ◌||◌, refl}
+use Rattle.std.specs.Prelude.{Bool, true, false, not, ◌&&◌, ◌||◌, refl}
 use Rattle.std.proofs.Math.Bool.{or_assoc, or_comm, and_assoc, and-true, and-false, and-or_distrib_left, and-or_distrib_right}
 use Rattle.std.proofs.Common.{ap}
 use Rattle.measure.specs.Algebra.{Ring}

@@ -1,5 +1,5 @@
 -- From what a question answers and writes to what that means. Assumes nothing.
-use Rattle.std.proofs.Common.{◌≡◌, ℕ, ◌<◌, ◌≤◌, Bool, true, false, cond, ◌&&◌, eqb, List, [], ◌∷◌, ◌++◌, length, take, drop, Some, None, Ok, Err, Option, Result, sym, refl, ap, ◌∙◌, subst, arith, MatchResult}
+use Rattle.std.proofs.Common.{◌≡◌, ℕ, ◌<◌, ◌≤◌, Bool, true, false, cond, ◌&&◌, eqb, List, [], ◌∷◌, length, take, drop, Some, None, Option, Result, sym, refl, ap, ◌∙◌, subst, arith, MatchResult}
 use Rattle.std.specs.List.{AllByRecursion as All}
 use Rattle.std.proofs.lemmas.List.{take_at}
 use Rattle.std.proofs.lemmas.Bool.{and_parts, eqb-true}
@@ -12,7 +12,7 @@ use Rattle.rules.specs.Refusals.{refusal_number}
 use Rattle.rules.specs.Cells.{cells_lawful}
 use Rattle.rules.specs.Plain.{Plain, unless}
 use Rattle.rules.specs.Compasses.{PlainCompass}
-use Rattle.rules.specs.Standing.{Asked, stands, standing_lines, kept_at, agrees_all_round}
+use Rattle.rules.specs.Standing.{Asked, standing_lines, kept_at, agrees_all_round}
 use Rattle.rules.specs.Laws.{Stands, NoneStands, First, Least, Numbered, Decided, LeastFound, Picked}
 use Rattle.rules.specs.Questions.{places_asked, line_questions, pick_questions, unless_found, first_standing, least_standing, picked, decide_no, least_no, pick_no}
 use Rattle.question.proofs.Laws.{first_law, none_from_empty, least_law, least_none, numbered_law, pick_below, pick_bound}

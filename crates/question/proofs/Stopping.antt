@@ -1,5 +1,5 @@
 -- The first no of a question that asks more than another. Assumes nothing.
-use Rattle.std.proofs.Common.{◌≡◌, ℕ, ◌*◌, Bool, true, false, leb, List, [], ◌∷◌, is_some, Some, None, Ok, Err, Option, Result, sym, ap, ◌∙◌, arith}
+use Rattle.std.proofs.Common.{◌≡◌, ℕ, ◌*◌, true, false, leb, List, [], ◌∷◌, is_some, Some, None, Ok, Err, Option, Result, sym, ap, ◌∙◌, arith}
 use Rattle.std.proofs.lemmas.Bool.{true≢false, false≢true}
 use Rattle.theme.specs.Refusals.{first_no, answer, or_next}
 use Rattle.engine.specs.Answers.{written}

@@ -1,5 +1,5 @@
 -- Sheets whose standing lines are worked out by hand. Assumes nothing.
-use Rattle.std.specs.Prelude.{◌≡◌, ℕ, List, [], ◌∷◌, pos, neg_ℤ, None}
+use Rattle.std.specs.Prelude.{◌≡◌, [], ◌∷◌, pos, neg_ℤ, None}
 use Rattle.books.specs.Examples.{WorkedExamples}
 use Rattle.books.specs.Strict.{strict_admits, strict_allows}
 use Rattle.theme.specs.declared.place.Mark.TheVariants.{Pin}

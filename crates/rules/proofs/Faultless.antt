@@ -1,19 +1,18 @@
 -- From what a call promises of itself to the law over courses. Assumes nothing.
-use Rattle.std.proofs.Common.{◌≡◌, ℕ, ◌<◌, ◌≤◌, min, Bool, true, false, cond, leb, List, [], ◌∷◌, ◌++◌, length, ℤ, Some, None, Ok, Err, Option, Result, sym, refl, ap, ◌∙◌, subst, arith}
+use Rattle.std.proofs.Common.{◌≡◌, ℕ, ◌≤◌, Bool, true, false, cond, List, ℤ, Some, None, Ok, Err, Option, Result, sym, refl, ap, ◌∙◌, subst, arith}
 use Rattle.std.proofs.lemmas.Bool.{cond-false, true≢false, false≢true, leb-true}
 use Rattle.measure.specs.Algebra.{Ring}
 use Rattle.theme.specs.declared.refusal.PageRefusal.{PageRefusal}
-use Rattle.theme.specs.Refusals.{first_no, or_next, answer}
+use Rattle.theme.specs.Refusals.{first_no, answer}
 use Rattle.theme.specs.Pages.{refusal_of}
-use Rattle.theme.proofs.Asked.{AllYes, all_yes, or_next_none}
+use Rattle.theme.proofs.Asked.{all_yes, or_next_none}
 use Rattle.rules.specs.declared.refusal.Refusal.{Refusal}
-use Rattle.rules.specs.declared.refusal.Refusal.TheVariants.{NoLineStands, NumberNotBelowCount}
+use Rattle.rules.specs.declared.refusal.Refusal.TheVariants.{NumberNotBelowCount}
 use Rattle.rules.specs.Plain.{Plain, unless, loaded, added, add_questions, dropped, drop_questions, fixed, fix_questions, freed, free_questions}
-use Rattle.rules.specs.Standing.{Asked, standing_lines}
 use Rattle.rules.specs.Questions.{weigh_questions, pick_questions, unless_found, picked, count_of, weight_of, decide_no, least_no, pick_no, check_no}
 use Rattle.rules.specs.Laws.{Decided, LeastFound, Picked, Checked}
-use Rattle.rules.specs.Courses.{Handed, asked_of, Call, Load, Add, Drop, Fix, Free, Close, Reopen, Decide, Count, Weigh, Pick, Least, Check, No, page_no, call_no, of_page, of_call, no_to, lets, made, Reached, draft_at, closed_at, after, Course, Then, reached}
-use Rattle.rules.specs.Faults.{Told, Away, Refused, Done, Line, Number, Weight, accepts, Tells, of_load, of_add, of_drop, of_fix, of_free, of_close, of_reopen, of_decide, of_count, of_weigh, of_pick, of_least, of_check, Fault, decide_denies, decide_errs, decide_late, check_accepts, check_denies, miscounts, misweighs, pick_denies, pick_beyond, pick_errs, misnumbers, least_denies, least_errs, least_beaten, least_late, misrefuses, overlooks, misanswers, turns_away, lets_pass, Kept, told_page, told_done, told_line, told_number, told_weight}
+use Rattle.rules.specs.Courses.{Handed, asked_of, Call, Load, Add, Drop, Fix, Free, Close, Reopen, Decide, Count, Weigh, Pick, Least, Check, No, page_no, call_no, of_page, of_call, no_to, lets, made, Reached, draft_at, closed_at, after}
+use Rattle.rules.specs.Faults.{Told, Away, Refused, Done, Tells, of_load, of_add, of_drop, of_fix, of_free, of_close, of_reopen, of_decide, of_count, of_weigh, of_pick, of_least, of_check, Fault, decide_denies, decide_errs, decide_late, check_accepts, check_denies, miscounts, misweighs, pick_denies, pick_beyond, pick_errs, misnumbers, least_denies, least_errs, least_beaten, least_late, misrefuses, overlooks, misanswers, turns_away, lets_pass, Kept, told_page, told_done, told_line, told_number, told_weight}
 
 -- Small facts --------------------------------------------------------------------------------------
 

@@ -2,7 +2,7 @@
 --
 --   cell         twice a key, and one more where it is held over from the place before: 0 to 47
 --   wrong_cell   the first place at which cells are no line, if there is one
-use Rattle.std.specs.Prelude.{ℕ, ◌+◌, ◌/◌, ◌%◌, Bool, true, false, cond, not, ◌&&◌, ◌||◌, List, [], ◌∷◌, Some, None, Option, ◌==◌, nat_lt}
+use Rattle.std.specs.Prelude.{ℕ, ◌+◌, ◌/◌, ◌%◌, Bool, true, cond, not, ◌&&◌, ◌||◌, List, [], ◌∷◌, Some, None, Option, ◌==◌, nat_lt}
 
 abbrev pub key_of : ℕ → ℕ
 key_of cell = cell / 2

@@ -1,5 +1,5 @@
 -- The questions in the subject's words: what the answers mean for all standing lines. Assumes nothing.
-use Rattle.std.specs.Prelude.{◌≡◌, ℕ, ◌<◌, ◌≤◌, Bool, true, false, ◌⊎◌, List, [], ◌∷◌, length, filter, Result, MatchResult}
+use Rattle.std.specs.Prelude.{◌≡◌, ℕ, ◌<◌, ◌≤◌, true, false, ◌⊎◌, List, [], ◌∷◌, length, filter, Result, MatchResult}
 use Rattle.std.specs.List.{AllByRecursion as All}
 use Rattle.rules.specs.declared.refusal.Refusal.{Refusal}
 use Rattle.rules.specs.declared.refusal.Refusal.TheVariants.{NotALine, NotKept, BookSaysNo, NoLineStands, NumberNotBelowCount}

@@ -1,5 +1,5 @@
 -- How a line meets the theme in a combination. Assumes nothing.
-use Rattle.std.specs.Prelude.{ℕ, ◌+◌, ◌%◌, Bool, cond, ℤ, pos, ◌+ℤ◌, ◌-ℤ◌, ◌==◌, slice_index_or}
+use Rattle.std.specs.Prelude.{ℕ, ◌+◌, ◌%◌, Bool, cond, pos, ◌+ℤ◌, ◌-ℤ◌, ◌==◌, slice_index_or}
 use Rattle.counterpoint.specs.declared.moments.Accent.{Accent}
 use Rattle.counterpoint.specs.declared.moments.Accent.TheVariants.{Strong, Weak}
 use Rattle.counterpoint.specs.declared.moments.Moment.{Moment}

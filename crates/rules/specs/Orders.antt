@@ -1,5 +1,5 @@
 -- The order of lines, and their sums of steps. Assumes nothing.
-use Rattle.std.specs.Prelude.{ℕ, ◌+◌, Bool, true, false, ◌&&◌, ◌||◌, List, [], ◌∷◌, Option, ◌==◌, nat_le, nat_lt}
+use Rattle.std.specs.Prelude.{ℕ, ◌+◌, Bool, false, ◌&&◌, ◌||◌, List, [], ◌∷◌, Option, ◌==◌, nat_le, nat_lt}
 use Rattle.engine.specs.Lines.{every}
 use Rattle.engine.specs.Weights.{steps, first_with}
 

@@ -4,7 +4,7 @@
 --   stands           does a line stand?
 --   standing_lines   all lines that stand, in order
 --   way              the same for one step of a line, as the engine asks for it
-use Rattle.std.specs.Prelude.{ℕ, ◌+◌, Bool, true, cond, not, ◌&&◌, ◌||◌, List, length, Some, None, filter, Option, ◌==◌, nat_lt, slice_index_or}
+use Rattle.std.specs.Prelude.{ℕ, ◌+◌, Bool, true, cond, ◌&&◌, List, length, Some, None, filter, Option, ◌==◌, nat_lt, slice_index_or}
 use Rattle.counterpoint.specs.declared.moments.Moment.{Moment}
 use Rattle.counterpoint.specs.declared.moments.Succession.{Succession}
 use Rattle.engine.specs.Lines.{Way, upto, every, every_line, cell_at}

@@ -1,5 +1,5 @@
 -- Reading a page is the inverse of writing it. Assumes nothing.
-use Rattle.std.proofs.Common.{◌≡◌, ℕ, zero, suc, ◌+◌, ◌-◌, ◌*◌, ◌%◌, ◌<◌, ◌≤◌, Bool, true, false, cond, ◌&&◌, eqb, leb, List, [], ◌∷◌, ◌++◌, length, get_or, drop, is_some, Some, None, Option, unwrap_or, sym, refl, ap, ◌∙◌, subst, arith, length-append, length-drop}
+use Rattle.std.proofs.Common.{◌≡◌, ℕ, zero, suc, ◌+◌, ◌*◌, ◌%◌, ◌≤◌, Bool, true, false, cond, ◌&&◌, eqb, leb, List, [], ◌∷◌, ◌++◌, length, get_or, drop, is_some, Some, None, Option, unwrap_or, sym, refl, ap, ◌∙◌, arith, length-drop}
 use Rattle.std.proofs.lemmas.List.{drop-drop, drop_more, nil_from_length}
 use Rattle.std.proofs.lemmas.Bool.{and_from, and_parts, leb-true, eq-eqb, eqb-true}
 use Rattle.theme.specs.declared.place.Mark.{Mark}
@@ -7,14 +7,14 @@ use Rattle.theme.specs.declared.place.Mark.TheVariants.{Pin, Bridge}
 use Rattle.theme.specs.declared.place.Place.{Place}
 use Rattle.theme.specs.declared.refusal.PageRefusal.{PageRefusal}
 use Rattle.theme.specs.Fields.{number_in, columns_of}
-use Rattle.theme.specs.Refusals.{first_no, or_next}
+use Rattle.theme.specs.Refusals.{first_no}
 use Rattle.theme.specs.Themes.{PlainTheme, Lawful, lawful, blank_or_lawful, places_lawful, count_lawful, bar_lawful, marked_well}
 use Rattle.theme.specs.Pages.{head_questions, row_questions, rows_refusal, refusal_of, theme_in, place_in, places_in, count_in, bar_in, key_in, mark_in, mark_of, letter_of, row_of, rows_of, head_of, page_of, page_length, holds_number, ReadsBack, AcceptsExactly}
 use Rattle.theme.specs.declared.reading.Head.{Head}
 use Rattle.theme.specs.Held.{Headed}
-use Rattle.theme.proofs.Asked.{all_yes, none_from_all_yes, or_next_none, or_next_both}
-use Rattle.theme.proofs.Passing.{HeadPasses, head_passes, RowPasses, row_passes}
-use Rattle.theme.proofs.Shown.{four_of, columns_shown, number_columns, split_four}
+use Rattle.theme.proofs.Asked.{none_from_all_yes, or_next_none, or_next_both}
+use Rattle.theme.proofs.Passing.{head_passes, RowPasses, row_passes}
+use Rattle.theme.proofs.Shown.{columns_shown, number_columns, split_four}
 
 -- the letter that gives a mark is the mark's letter
 mark_letter : (letter : ℕ) (mark : Mark) → mark_of letter ≡ Some mark → letter_of mark ≡ letter

@@ -1,9 +1,7 @@
 -- What is known of a head or a row to which there is no no. Assumes nothing.
-use Rattle.std.proofs.Common.{◌≡◌, ℕ, ◌+◌, Bool, true, false, eqb, leb, List, [], ◌∷◌, ◌++◌, length, get_or, drop, is_some, Some, None, Option, unwrap_or, sym, refl, ap, ◌∙◌, subst, arith}
+use Rattle.std.proofs.Common.{◌≡◌, ℕ, true, leb, List, length, get_or, drop, is_some, Some, None, Option, unwrap_or, refl, ap, arith}
 use Rattle.std.proofs.lemmas.Bool.{eqb-true}
-use Rattle.theme.specs.declared.place.Mark.{Mark}
 use Rattle.theme.specs.declared.place.Mark.TheVariants.{Pin}
-use Rattle.theme.specs.declared.refusal.PageRefusal.{PageRefusal}
 use Rattle.theme.specs.Fields.{number_in}
 use Rattle.theme.specs.Refusals.{first_no}
 use Rattle.theme.specs.Themes.{count_lawful, bar_lawful, marked_well}

@@ -2,7 +2,6 @@ use Rattle.std.proofs.Common.{◌≡◌, Option, refl, ap, ◌∙◌}
 use Rattle.std.proofs.lemmas.Result.{IfOk-weaker}
 use Rattle.std.proofs.lemmas.Option.{slice_get_past, slice_get_read}
 use Rattle.std.specs.List.{slice_get}
-use Rattle.standing.specs.declared.compass.Compass.{Compass}
 use Rattle.rules.specs.Courses.{Handed, Unhanded, closed_at}
 use Rattle.rules.proofs.Faultless.{away_kept, kept_is}
 use Rattle.sheet.specs.Held.{closed}

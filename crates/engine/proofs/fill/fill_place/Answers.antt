@@ -1,4 +1,4 @@
-use Rattle.std.proofs.Common.{◌≡◌, ◌+◌, ◌*◌, ◌≤◌, length, sym, ◌∙◌, subst, arith}
+use Rattle.std.proofs.Common.{◌+◌, sym, ◌∙◌, subst, arith}
 use Rattle.engine.specs.Tables.{Begun, Filled, Kept}
 use Rattle.engine.specs.Words.{said}
 use Rattle.engine.proofs.Fillings.{begun_more, filled_place, filled_set, kept_set}

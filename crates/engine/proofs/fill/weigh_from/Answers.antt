@@ -1,4 +1,4 @@
-use Rattle.std.proofs.Common.{◌≤◌, ◌∙◌, arith}
+use Rattle.std.proofs.Common.{◌∙◌, arith}
 use Rattle.engine.specs.Tables.{Filled}
 use Rattle.engine.specs.Words.{said}
 use Rattle.engine.proofs.Fillings.{filled_start}

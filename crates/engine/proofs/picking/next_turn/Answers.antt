@@ -1,4 +1,4 @@
-use Rattle.std.proofs.Common.{◌≡◌, ℕ, ◌+◌, ◌-◌, ◌<◌, length, sym, ap, ◌∙◌, subst, arith}
+use Rattle.std.proofs.Common.{◌≡◌, ◌+◌, ◌-◌, length, sym, ap, ◌∙◌, subst, arith}
 use Rattle.measure.specs.Numbers.{cap, many}
 use Rattle.engine.specs.Tails.{by_cell, passed, tails}
 use Rattle.engine.specs.Words.{said}

@@ -1,4 +1,4 @@
-use Rattle.std.proofs.Common.{◌≡◌, ℕ, ◌+◌, ◌-◌, ◌<◌, ◌≤◌, is_some, sym, ap, ◌∙◌, subst, le-add_right, arith}
+use Rattle.std.proofs.Common.{◌≡◌, ◌+◌, ◌-◌, ◌<◌, ◌≤◌, is_some, sym, ap, ◌∙◌, subst, le-add_right, arith}
 use Rattle.std.specs.List.{slice_get}
 use Rattle.engine.specs.Answers.{written}
 use Rattle.engine.specs.Lines.{roster}

@@ -1,4 +1,4 @@
-use Rattle.std.proofs.Common.{◌≡◌, ◌≤◌, true, false, length, is_some, sym, ap, ◌∙◌, arith}
+use Rattle.std.proofs.Common.{◌≡◌, true, false, is_some, sym, ap, ◌∙◌, arith}
 use Rattle.engine.specs.Answers.{written}
 use Rattle.engine.specs.Words.{said}
 use Rattle.engine.proofs.Buffers.{written_front}

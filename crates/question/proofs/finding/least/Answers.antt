@@ -1,10 +1,10 @@
-use Rattle.std.proofs.Common.{◌≡◌, ℕ, List, length, is_some, Option, sym, refl, ap, ◌∙◌, subst}
+use Rattle.std.proofs.Common.{ℕ, List, length, is_some, Option, sym, refl, ap, ◌∙◌, subst}
 use Rattle.std.specs.List.{AllByRecursion as All}
 use Rattle.std.proofs.lemmas.Result.{err_from_is_err_and}
 use Rattle.theme.specs.Refusals.{first_no}
 use Rattle.engine.specs.Answers.{written}
 use Rattle.engine.proofs.Rosters.{Sound}
-use Rattle.rules.specs.declared.refusal.Refusal.TheVariants.{NoLineStands, NumberNotBelowCount}
+use Rattle.rules.specs.declared.refusal.Refusal.TheVariants.{NoLineStands}
 use Rattle.rules.specs.Courses.{asked_of}
 use Rattle.rules.specs.Faults.{unweighed}
 use Rattle.rules.proofs.Faultless.{least_kept}
@@ -12,10 +12,10 @@ use Rattle.sheet.specs.Held.{closed}
 use Rattle.standing.specs.Asking.{handed}
 use Rattle.rules.specs.Standing.{standing_lines}
 use Rattle.rules.specs.Orders.{least_of}
-use Rattle.rules.specs.Questions.{line_questions, pick_questions, first_standing, least_standing, picked}
+use Rattle.rules.specs.Questions.{line_questions, least_standing}
 use Rattle.question.proofs.Answering.{least_means}
 use Rattle.question.proofs.Engines.{beyond_is, standing_sound}
-use Rattle.question.proofs.Measured.{first_possible, first_movement}
+use Rattle.question.proofs.Measured.{first_movement}
 use Rattle.question.proofs.Stopping.{stopped_answers, stopped_line, found_answers, missing_answers, found_line, never_stopped}
 use Rattle.question.proofs.finding.least.Goals as goal
 

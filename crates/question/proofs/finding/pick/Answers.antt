@@ -1,21 +1,16 @@
-use Rattle.std.proofs.Common.{◌≡◌, ℕ, List, length, is_some, Option, sym, refl, ap, ◌∙◌, subst}
-use Rattle.std.specs.List.{AllByRecursion as All}
+use Rattle.std.proofs.Common.{length, sym, refl, ◌∙◌}
 use Rattle.std.proofs.lemmas.Result.{err_from_is_err_and}
 use Rattle.theme.specs.Refusals.{first_no}
 use Rattle.engine.specs.Answers.{written}
-use Rattle.engine.proofs.Rosters.{Sound}
-use Rattle.rules.specs.declared.refusal.Refusal.TheVariants.{NoLineStands, NumberNotBelowCount}
+use Rattle.rules.specs.declared.refusal.Refusal.TheVariants.{NumberNotBelowCount}
 use Rattle.rules.specs.Courses.{asked_of}
 use Rattle.rules.specs.Faults.{unweighed}
 use Rattle.rules.proofs.Faultless.{pick_kept}
 use Rattle.sheet.specs.Held.{closed}
 use Rattle.standing.specs.Asking.{handed}
-use Rattle.rules.specs.Standing.{standing_lines}
-use Rattle.rules.specs.Orders.{least_of}
-use Rattle.rules.specs.Questions.{line_questions, pick_questions, first_standing, least_standing, picked}
+use Rattle.rules.specs.Questions.{pick_questions, picked}
 use Rattle.question.proofs.Answering.{pick_means}
-use Rattle.question.proofs.Engines.{beyond_is, standing_sound}
-use Rattle.question.proofs.Measured.{first_possible, first_movement}
+use Rattle.question.proofs.Engines.{beyond_is}
 use Rattle.question.proofs.Stopping.{stopped_answers, stopped_line, found_answers, missing_answers, found_line, never_stopped}
 use Rattle.question.proofs.finding.pick.Goals as goal
 

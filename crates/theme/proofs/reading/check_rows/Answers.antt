@@ -1,6 +1,6 @@
-use Rattle.std.proofs.Common.{◌≡◌, suc, ◌+◌, ◌-◌, ◌*◌, length, Some, None, sym, ap, ◌∙◌, arith, length-drop}
+use Rattle.std.proofs.Common.{◌≡◌, suc, ◌+◌, ◌-◌, length, sym, ap, ◌∙◌, arith, length-drop}
 use Rattle.std.proofs.lemmas.Result.{err_from_is_err_and}
-use Rattle.theme.specs.Pages.{rows_refusal, key_in}
+use Rattle.theme.specs.Pages.{key_in}
 use Rattle.theme.proofs.Rows.{rows_refusal_next, rows_refusal_stops}
 use Rattle.theme.proofs.reading.check_rows.Goals as goal
 

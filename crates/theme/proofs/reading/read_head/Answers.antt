@@ -1,8 +1,7 @@
-use Rattle.std.proofs.Common.{◌≡◌, arith, length-drop, rules}
+use Rattle.std.proofs.Common.{arith, length-drop, rules}
 use Rattle.std.proofs.lemmas.List.{take_rest}
 use Rattle.std.proofs.lemmas.Bool.Decides.{nat_tests}
-use Rattle.theme.specs.Refusals.{first_no}
-use Rattle.theme.specs.Pages.{head_questions, count_in, bar_in}
+use Rattle.theme.specs.Pages.{head_questions}
 use Rattle.theme.proofs.Asked.{none_from_all_yes}
 use Rattle.theme.proofs.reading.read_head.Goals as goal
 

@@ -1,9 +1,9 @@
-use Rattle.std.proofs.Common.{◌≡◌, ℕ, true, false, ◌&&◌, List, Some, None, vec_items, sym, ap, ◌∙◌, arith}
+use Rattle.std.proofs.Common.{◌≡◌, Some, None, vec_items, sym, ap, ◌∙◌, arith}
 use Rattle.std.proofs.lemmas.Result.{err_from_is_err_and}
 use Rattle.std.proofs.lemmas.Int.{to_z-of_z}
 use Rattle.theme.specs.Refusals.{first_no}
 use Rattle.rules.specs.declared.combination.Combination.{Combination}
-use Rattle.rules.specs.Plain.{Plain, combination_questions, combination_of, original, same, listed, without, dropped, places_of, all_in_range}
+use Rattle.rules.specs.Plain.{combination_questions, combination_of, original, same, listed, dropped, places_of, all_in_range}
 use Rattle.sheet.specs.Held.{contents}
 use Rattle.sheet.proofs.Listing.{same_told}
 use Rattle.sheet.proofs.Refused.{refused_answers, refused_holds, accepted_answers, accepted_holds, drop_stops, drop_accepted, in_range_without, left_without}

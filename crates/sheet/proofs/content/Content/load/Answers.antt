@@ -1,4 +1,4 @@
-use Rattle.std.proofs.Common.{◌≡◌, length, replicate, None, vec_items, ap, ◌∙◌}
+use Rattle.std.proofs.Common.{length, replicate, None, ap, ◌∙◌}
 use Rattle.std.proofs.lemmas.Result.{err_from_is_err_and}
 use Rattle.theme.specs.Themes.{PlainTheme}
 use Rattle.theme.specs.Pages.{refusal_of}
