@@ -2,7 +2,7 @@
 use Rattle.std.proofs.Common.{◌≡◌, ℕ, zero, suc, ◌<◌, Bool, true, false, cond, List, [], ◌∷◌, ◌++◌, map, is_some, Some, None, Option, sym, refl, ap, ◌∙◌, ap₂, ⊎_elim, arith}
 use Rattle.std.proofs.lemmas.Bool.{cases_eq, false≢true}
 use Rattle.std.specs.Option.{option_map}
-use Rattle.std.specs.List.{flat_map as spread, AllByRecursion as All}
+use Rattle.std.specs.List.{flat_map as spread, AllByRecursion}
 use Rattle.engine.specs.Lines.{upto}
 use Rattle.engine.specs.Weights.{first_with}
 use Rattle.engine.proofs.Lists.{spread_more}
@@ -47,7 +47,7 @@ module _ {A : Type 0} where
   first_with_map test g (y ∷ ys) =
       ap (cond (test (g y)) (Some (g y))) (first_with_map test g ys) ∙ cond_mapped (test (g y)) g y (first_with (λ z. test (g z)) ys)
 
-  pub first_with_cong : (p q : A → Bool) (xs : List A) → All (λ x. p x ≡ q x) xs → first_with p xs ≡ first_with q xs
+  pub first_with_cong : (p q : A → Bool) (xs : List A) → AllByRecursion (λ x. p x ≡ q x) xs → first_with p xs ≡ first_with q xs
   first_with_cong p q [] same = refl
   first_with_cong p q (x ∷ xs) same = ap₂ (λ b o. cond b (Some x) o) same.0 (first_with_cong p q xs same.1)
 

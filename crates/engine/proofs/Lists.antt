@@ -4,7 +4,7 @@ use mathlib.Core.Path.{fun_ext}
 use Rattle.std.proofs.lemmas.List.Elements.{filter-append}
 use Rattle.std.proofs.ByRecursion.{All-append, All-push, All-weaker}
 use Rattle.std.proofs.lemmas.List.{append_assoc, append-nil, length-append, map-append}
-use Rattle.std.specs.List.{flat_map as spread, AllByRecursion as All}
+use Rattle.std.specs.List.{flat_map as spread, AllByRecursion}
 use Rattle.engine.specs.Lines.{every, upto}
 
 module _ {X : Type 0} where
@@ -17,7 +17,7 @@ module _ {X : Type 0} where
   kept_by_map test g (y ∷ ys) =
       ap (λ zs. cond (test (g y)) (g y ∷ zs) zs) (kept_by_map test g ys) ∙ cond_map (test (g y)) g y (filter (λ z. test (g z)) ys)
 
-  pub kept_by_cong : (p q : X → Bool) (xs : List X) → All (λ x. p x ≡ q x) xs → filter p xs ≡ filter q xs
+  pub kept_by_cong : (p q : X → Bool) (xs : List X) → AllByRecursion (λ x. p x ≡ q x) xs → filter p xs ≡ filter q xs
   kept_by_cong p q [] same = refl
   kept_by_cong p q (x ∷ xs) same = ap₂ (λ b ys. cond b (x ∷ ys) ys) same.0 (kept_by_cong p q xs same.1)
 
@@ -30,7 +30,7 @@ module _ {X : Type 0} where
   kept_by_and true q xs = refl
   kept_by_and false q xs = kept_by_none xs
 
-  pub map_cong : {Y : Type 0} (f g : X → Y) (xs : List X) → All (λ x. f x ≡ g x) xs → map f xs ≡ map g xs
+  pub map_cong : {Y : Type 0} (f g : X → Y) (xs : List X) → AllByRecursion (λ x. f x ≡ g x) xs → map f xs ≡ map g xs
   map_cong f g [] same = refl
   map_cong f g (x ∷ xs) same = ap₂ ◌∷◌ same.0 (map_cong f g xs same.1)
 
@@ -38,7 +38,7 @@ module _ {X : Type 0} where
   map_map f g [] = refl
   map_map f g (x ∷ xs) = ap (λ ys. f (g x) ∷ ys) (map_map f g xs)
 
-  pub every_cong : (p q : X → Bool) (xs : List X) → All (λ x. p x ≡ q x) xs → every p xs ≡ every q xs
+  pub every_cong : (p q : X → Bool) (xs : List X) → AllByRecursion (λ x. p x ≡ q x) xs → every p xs ≡ every q xs
   every_cong p q [] same = refl
   every_cong p q (x ∷ xs) same = ap₂ ◌&&◌ same.0 (every_cong p q xs same.1)
 
@@ -59,7 +59,7 @@ module _ {X Y : Type 0} where
   kept_by_spread test f (x ∷ xs) =
       filter-append test (f x) (spread f xs) ∙ ap (λ zs. filter test (f x) ++ zs) (kept_by_spread test f xs)
 
-  pub all_spread : (P : Y → Type 0) (Q : X → Type 0) (f : X → List Y) (xs : List X) → All Q xs → ((x : X) → Q x → All P (f x)) → All P (spread f xs)
+  pub all_spread : (P : Y → Type 0) (Q : X → Type 0) (f : X → List Y) (xs : List X) → AllByRecursion Q xs → ((x : X) → Q x → AllByRecursion P (f x)) → AllByRecursion P (spread f xs)
   all_spread P Q f [] all each = tt
   all_spread P Q f (x ∷ xs) all each = All-append P (f x) (spread f xs) (each x all.0) (all_spread P Q f xs all.1 each)
 
@@ -68,7 +68,7 @@ pub spread_more : {Y : Type 0} (f : ℕ → List Y) (n : ℕ) → spread f (upto
 spread_more f n = spread-++ f (upto n) (n ∷ []) ∙ ap (λ zs. spread f (upto n) ++ zs) (append-nil (f n))
 
 -- the numbers below n are below n
-pub all_upto : (n : ℕ) → All (λ c. c < n) (upto n)
+pub all_upto : (n : ℕ) → AllByRecursion (λ c. c < n) (upto n)
 all_upto zero = tt
 all_upto (suc n) =
     All-push (λ c. c < suc n) (upto n) n (All-weaker (λ c. c < n) (λ c. c < suc n) (λ c h. omega arith) (upto n) (all_upto n)) (omega arith)

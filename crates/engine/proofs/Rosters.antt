@@ -5,22 +5,22 @@ use mathlib.Core.Path.{fun_ext}
 use native.Mathlib.Nat.{mod_self}
 use Rattle.std.proofs.ByRecursion.{All-get_or, all_kept_by, All-map, All-weaker}
 use Rattle.std.proofs.lemmas.List.{drop-drop}
-use Rattle.std.specs.List.{flat_map as spread, AllByRecursion as All}
+use Rattle.std.specs.List.{flat_map as spread, AllByRecursion}
 use Rattle.engine.specs.Lines.{Hop, Way, cell_at, every, every_line, goes_round, hops, roster, upto}
 use Rattle.engine.specs.Tails.{begun_by, tails}
 use Rattle.engine.proofs.Lists.{all_spread, all_upto, every_cong, every_map, kept_by_and, kept_by_cong, kept_by_map, kept_by_spread, map_map, spread_cong, upto_front}
 
 -- a line of n cells
 abbrev pub Sound : ℕ → List ℕ → Type 0
-Sound n line = (length line ≡ n) × All (λ c. c < 48) line
+Sound n line = (length line ≡ n) × AllByRecursion (λ c. c < 48) line
 
-pub every_line_sound : (n : ℕ) → All (Sound n) (every_line n)
+pub every_line_sound : (n : ℕ) → AllByRecursion (Sound n) (every_line n)
 every_line_sound zero = ((refl, tt), tt)
 every_line_sound (suc n) =
     all_spread (Sound (suc n)) (λ c. c < 48) (λ c. map (λ cells. c ∷ cells) (every_line n)) (upto 48) (all_upto 48)
     (λ c h. All-map (Sound (suc n)) (λ cells. c ∷ cells) (every_line n) (All-weaker (Sound n) (λ cells. Sound (suc n) (c ∷ cells)) (λ cells s. (ap suc s.0, (h, s.1))) (every_line n) (every_line_sound n)))
 
-pub roster_sound : (way : Way) (n : ℕ) → All (Sound n) (roster way n)
+pub roster_sound : (way : Way) (n : ℕ) → AllByRecursion (Sound n) (roster way n)
 roster_sound way n = all_kept_by (goes_round way n) (Sound n) (every_line n) (every_line_sound n)
 
 -- the hops from the cell c at place t through the cells after it and to the goal

@@ -2,7 +2,7 @@
 use Rattle.std.proofs.Common.{◌≡◌, ℕ, zero, suc, ◌+◌, ◌-◌, ◌<◌, ◌≤◌, Bool, true, false, cond, List, [], ◌∷◌, ◌++◌, map, length, sym, refl, ap, ◌∙◌, arith}
 use Rattle.std.proofs.ByRecursion.{All-map, All-weaker}
 use Rattle.std.proofs.lemmas.List.{length-map, map-append}
-use Rattle.std.specs.List.{flat_map as spread, AllByRecursion as All}
+use Rattle.std.specs.List.{flat_map as spread, AllByRecursion}
 use Rattle.measure.specs.Algebra.{Ring, chained, joined}
 use Rattle.engine.specs.Lines.{Hop, Way, cell_at, hops, leap, roster, upto}
 use Rattle.engine.specs.Tables.{crossing, rest, round, sum}
@@ -84,7 +84,7 @@ pub length_steps : (n : ℕ) (line : List ℕ) → length (steps n line) ≡ n
 length_steps n line = length-map (hops n line) (λ (h : Hop). leap h.1 h.2) ∙ length-map (upto n) (λ t. (t, cell_at n line t, cell_at n line (t + 1))) ∙ length_upto n
 
 -- and none over 23
-pub steps_small : (n : ℕ) (line : List ℕ) → 0 < n → Sound n line → All (λ s. s ≤ 23) (steps n line)
+pub steps_small : (n : ℕ) (line : List ℕ) → 0 < n → Sound n line → AllByRecursion (λ s. s ≤ 23) (steps n line)
 steps_small n line some s =
     All-map (λ x. x ≤ 23) (λ (h : Hop). leap h.1 h.2) (hops n line)
     (All-map (λ (h : Hop). leap h.1 h.2 ≤ 23) (λ t. (t, cell_at n line t, cell_at n line (t + 1))) (upto n)

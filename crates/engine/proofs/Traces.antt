@@ -5,7 +5,7 @@ use Rattle.std.proofs.ByRecursion.{All-weaker}
 use Rattle.std.proofs.lemmas.List.{append_assoc, append-nil, take_more_set}
 use Rattle.std.proofs.lemmas.Bool.{and_parts, both_ways, cases_Bool, cases_lt}
 use Rattle.std.specs.Option.{option_map}
-use Rattle.std.specs.List.{AllByRecursion as All}
+use Rattle.std.specs.List.{AllByRecursion}
 use Rattle.measure.specs.Algebra.{Ring, joined, walked}
 use Rattle.engine.specs.Lines.{Way, leap, roster}
 use Rattle.engine.specs.Tables.{crossing, rest, round, sum}
@@ -180,11 +180,11 @@ module _ {M : Type 0} (R : Ring M) (picks : M → M → Bool) (either : (x y : M
       start_best k total is some start l before here ∙ ap (λ j. best_from R picks way j total start) left
 
   -- where no chain of steps is none, a total that is none has no line
-  module _ (lasting : (sizes : List ℕ) → length sizes ≤ 64 → All (λ s. s ≤ 23) sizes → walked R sizes ≡ R.none → ⊥) where
+  module _ (lasting : (sizes : List ℕ) → length sizes ≤ 64 → AllByRecursion (λ s. s ≤ 23) sizes → walked R sizes ≡ R.none → ⊥) where
     weight_some : (n : ℕ) (line : List ℕ) → 0 < n → n ≤ 64 → Sound n line → weight R n line ≡ R.none → ⊥
     weight_some n line least most s = lasting (steps n line) (subst (λ m. m ≤ 64) (sym (length_steps n line)) most) (steps_small n line least s)
 
-    none_lines : (n : ℕ) (lines : List (List ℕ)) → 0 < n → n ≤ 64 → All (Sound n) lines → joined_weight R n lines ≡ R.none → lines ≡ []
+    none_lines : (n : ℕ) (lines : List (List ℕ)) → 0 < n → n ≤ 64 → AllByRecursion (Sound n) lines → joined_weight R n lines ≡ R.none → lines ≡ []
     none_lines n [] least most s e = refl
     none_lines n (line ∷ lines) least most s e =
         let w = weight R n line in

@@ -2,7 +2,7 @@
 // Knows nothing of any one measure.
 ghost use Rattle.std.specs.Prelude.{◌≡◌, ℕ, ◌≤◌, Bool, true, List, length, if◌then◌else◌, ◌≢◌};
 ghost use Rattle.measure.specs.Algebra.{Ring, walked};
-ghost use Rattle.std.specs.List.{AllByRecursion as All};
+ghost use Rattle.std.specs.List.{AllByRecursion};
 
 /// Values that can be joined, as ways side by side, and chained, as steps one after the other.
 pub trait Measure: Copy {
@@ -48,5 +48,5 @@ pub trait Choosing: Measure {
 
     ghost former: { (x y : Self) → Self.ring.join x y ≡ x → picks x y ≡ true };
 
-    ghost lasting: { (sizes : List ℕ) → length sizes ≤ 64 → All (λ s. s ≤ 23) sizes → walked Self.ring sizes ≢ Self.ring.none };
+    ghost lasting: { (sizes : List ℕ) → length sizes ≤ 64 → AllByRecursion (λ s. s ≤ 23) sizes → walked Self.ring sizes ≢ Self.ring.none };
 }

@@ -1,6 +1,6 @@
 -- From what a question answers and writes to what that means. Assumes nothing.
 use Rattle.std.proofs.Common.{◌≡◌, ℕ, ◌<◌, ◌≤◌, Bool, true, false, cond, ◌&&◌, eqb, List, [], ◌∷◌, length, take, drop, Some, None, Option, Result, sym, refl, ap, ◌∙◌, subst, arith, MatchResult}
-use Rattle.std.specs.List.{AllByRecursion as All}
+use Rattle.std.specs.List.{AllByRecursion}
 use Rattle.std.proofs.lemmas.List.{take_at}
 use Rattle.std.proofs.lemmas.Bool.{and_parts, eqb-true}
 use Rattle.theme.specs.Refusals.{first_no, or_next, answer}
@@ -18,7 +18,7 @@ use Rattle.rules.specs.Questions.{places_asked, line_questions, pick_questions, 
 use Rattle.question.proofs.Laws.{first_law, none_from_empty, least_law, least_none, numbered_law, pick_below, pick_bound}
 
 -- a refusal that no question has is not the first no
-other_no : (qs : List (Bool × Refusal)) (r : Refusal) → All (λ (q : Bool × Refusal). q.1 ≡ r → ⊥) qs → (e : Refusal) → first_no qs ≡ Some e → e ≡ r → ⊥
+other_no : (qs : List (Bool × Refusal)) (r : Refusal) → AllByRecursion (λ (q : Bool × Refusal). q.1 ≡ r → ⊥) qs → (e : Refusal) → first_no qs ≡ Some e → e ≡ r → ⊥
 other_no [] r others e never is = let z : ◌≡◌ {A = ℕ} 0 1 = cc in omega arith
 other_no (q ∷ qs) r others e some is = go (λ rest. other_no qs r others.1 e rest is) q.0 some
   where

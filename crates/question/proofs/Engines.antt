@@ -1,6 +1,6 @@
 -- The engine's answers, where it is asked what fits, are about the standing lines. Assumes nothing.
 use Rattle.std.proofs.Common.{◌≡◌, ℕ, ◌*◌, ◌<◌, ◌≤◌, List, drop, None, Ok, Option, Result, sym, ap, ◌∙◌, subst, arith}
-use Rattle.std.specs.List.{AllByRecursion as All}
+use Rattle.std.specs.List.{AllByRecursion}
 use Rattle.std.proofs.ByRecursion.{all_kept_by}
 use Rattle.std.proofs.lemmas.Bool.Decides.{nat_tests}
 use Rattle.engine.specs.Answers.{first_no, room_questions, line_questions, pick_questions, unless, unless_written, written}
@@ -42,5 +42,5 @@ beyond_is before after f is =
     subst (λ (k : ℕ). drop (48 * k) after ≡ drop (48 * k) before) f.places_are is
 
 -- each standing line has a cell below 48 for each place
-pub standing_sound : (a : Asked) → All (Sound (places_of a.sheet)) (standing_lines a)
+pub standing_sound : (a : Asked) → AllByRecursion (Sound (places_of a.sheet)) (standing_lines a)
 standing_sound a = all_kept_by (stands a) (Sound (places_of a.sheet)) (every_line (places_of a.sheet)) (every_line_sound (places_of a.sheet))

@@ -4,7 +4,7 @@ use Rattle.std.proofs.ByRecursion.{All-weaker, kept_by_passes, Decides-by_and}
 use Rattle.std.proofs.lemmas.List.{nil_from_length}
 use Rattle.std.proofs.lemmas.Option.{slice_get_past}
 use Rattle.std.proofs.lemmas.Bool.{and_parts, both_ways, cases_lt, cond_both, cond-false, cond-true, eqb-true, le-leb, leb-true, ltb-true}
-use Rattle.std.specs.List.{AllByRecursion as All, slice_get}
+use Rattle.std.specs.List.{AllByRecursion, slice_get}
 use Rattle.engine.specs.Lines.{every, every_line}
 use Rattle.engine.specs.Weights.{first_with}
 use Rattle.rules.specs.Cells.{cell_lawful, cells_lawful}
@@ -20,7 +20,7 @@ lawful_small : (before : Option ℕ) (c : ℕ) → cell_lawful before c ≡ true
 lawful_small None c lawful = ltb-true c 48 (and_parts (ltb c 48) _ lawful).0
 lawful_small (Some b) c lawful = ltb-true c 48 (and_parts (ltb c 48) _ lawful).0
 
-all_small : (before : Option ℕ) (cs : List ℕ) → cells_lawful before cs ≡ true → All (λ c. c < 48) cs
+all_small : (before : Option ℕ) (cs : List ℕ) → cells_lawful before cs ≡ true → AllByRecursion (λ c. c < 48) cs
 all_small before [] lawful = tt
 all_small before (c ∷ cs) lawful =
     let parts = and_parts (cell_lawful before c) (cells_lawful (Some c) cs) lawful in
@@ -79,9 +79,9 @@ none_from_empty a e =
     let none = pick_bound a 0 e in
     none_stands a (nil_from_length (standing_lines a) (omega arith))
 
-nth_first : (xs : List (List ℕ)) (x : List ℕ) → Ascending xs → slice_get xs 0 ≡ Some x → All (λ y. precedes y x ≡ false) xs
+nth_first : (xs : List (List ℕ)) (x : List ℕ) → Ascending xs → slice_get xs 0 ≡ Some x → AllByRecursion (λ y. precedes y x ≡ false) xs
 nth_first [] x up e = tt
-nth_first (y ∷ ys) x up e = subst (λ z. All (λ w. precedes w z ≡ false) (y ∷ ys)) (some_is y x e) (none_before y ys up)
+nth_first (y ∷ ys) x up e = subst (λ z. AllByRecursion (λ w. precedes w z ≡ false) (y ∷ ys)) (some_is y x e) (none_before y ys up)
 
 pub first_law : (a : Asked) (line : List ℕ) → first_standing a ≡ Some line → First a line
 first_law a line e =
@@ -93,7 +93,7 @@ first_law a line e =
 
 -- The line of a number ---------------------------------------------------------------------------
 
-kept_by_no : {X : Type 0} (test : X → Bool) (xs : List X) → All (λ x. test x ≡ false) xs → filter test xs ≡ []
+kept_by_no : {X : Type 0} (test : X → Bool) (xs : List X) → AllByRecursion (λ x. test x ≡ false) xs → filter test xs ≡ []
 kept_by_no test [] fail = refl
 kept_by_no test (x ∷ xs) fail = cond-false (test x) _ _ fail.0 ∙ kept_by_no test xs fail.1
 
@@ -111,16 +111,16 @@ numbered_law a k line e =
 
 -- The line of least sum --------------------------------------------------------------------------
 
-every_all : {X : Type 0} (test : X → Bool) (xs : List X) → every test xs ≡ true → All (λ x. test x ≡ true) xs
+every_all : {X : Type 0} (test : X → Bool) (xs : List X) → every test xs ≡ true → AllByRecursion (λ x. test x ≡ true) xs
 every_all test xs = (Decides-by_and test (λ x. test x ≡ true) (every test) (λ x. (λ e. e, λ e. e)) refl (λ _ _. refl) xs).0
 
-all_every : {X : Type 0} (test : X → Bool) (xs : List X) → All (λ x. test x ≡ true) xs → every test xs ≡ true
+all_every : {X : Type 0} (test : X → Bool) (xs : List X) → AllByRecursion (λ x. test x ≡ true) xs → every test xs ≡ true
 all_every test xs = (Decides-by_and test (λ x. test x ≡ true) (every test) (λ x. (λ e. e, λ e. e)) refl (λ _ _. refl) xs).1
 
-first_with_no : {X : Type 0} (test : X → Bool) (xs : List X) → first_with test xs ≡ None → All (λ x. test x ≡ false) xs
+first_with_no : {X : Type 0} (test : X → Bool) (xs : List X) → first_with test xs ≡ None → AllByRecursion (λ x. test x ≡ false) xs
 first_with_no test [] = λ e. tt
 first_with_no test (y ∷ ys) =
-    cond_both (test y) (Some y) (first_with test ys) (λ o. o ≡ None → All (λ x. test x ≡ false) (y ∷ ys))
+    cond_both (test y) (Some y) (first_with test ys) (λ o. o ≡ None → AllByRecursion (λ x. test x ≡ false) (y ∷ ys))
     (λ pass e. absurd (not_some y (sym e)))
     (λ fail e. (fail, first_with_no test ys e))
 
@@ -150,7 +150,7 @@ module _ (sum : List ℕ → ℕ) where
   at_most_all xs x = every (λ other. leb (sum x) (sum other)) xs
 
   -- some line of a list that is not empty has the least sum
-  least_among : (x : List ℕ) (xs : List (List ℕ)) → (m : List ℕ) × Among m (x ∷ xs) × All (λ y. sum m ≤ sum y) (x ∷ xs)
+  least_among : (x : List ℕ) (xs : List (List ℕ)) → (m : List ℕ) × Among m (x ∷ xs) × AllByRecursion (λ y. sum m ≤ sum y) (x ∷ xs)
   least_among x [] = (x, inl refl, (omega arith, tt))
   least_among x (y ∷ ys) =
       let m = least_among y ys in

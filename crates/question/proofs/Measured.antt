@@ -3,7 +3,7 @@ use Rattle.std.proofs.Common.{◌≡◌, ℕ, ◌<◌, ◌≤◌, min, true, ◌
 use Rattle.std.proofs.ByRecursion.{All-weaker}
 use Rattle.std.proofs.lemmas.Bool.{cases_Bool, cases_lt, cond-true, le-leb, or_left}
 use Rattle.std.proofs.lemmas.Bool.Decides.{nat_tests}
-use Rattle.std.specs.List.{AllByRecursion as All, slice_get}
+use Rattle.std.specs.List.{AllByRecursion, slice_get}
 use Rattle.measure.specs.Algebra.{walked}
 use Rattle.measure.specs.Movements.{movement_ring, same_movement, smaller}
 use Rattle.measure.specs.Numbers.{number_ring}
@@ -63,7 +63,7 @@ leb_joined m n [] h = le-leb m 1000000 h
 leb_joined m n (line ∷ lines) h =
     leb_min m (weight movement_ring n line).sum (joined_weight movement_ring n lines).sum ∙ ap (λ b. leb m (weight movement_ring n line).sum && b) (leb_joined m n lines h)
 
-pub first_movement : (n : ℕ) (lines : List (List ℕ)) → n ≤ 64 → All (Sound n) lines → 0 < n → first_best movement_ring smaller n lines ≡ least_of n lines
+pub first_movement : (n : ℕ) (lines : List (List ℕ)) → n ≤ 64 → AllByRecursion (Sound n) lines → 0 < n → first_best movement_ring smaller n lines ≡ least_of n lines
 first_movement n lines short sound some =
     first_with_cong _ _ lines (All-weaker (Sound n) _ least lines sound)
   where

@@ -2,7 +2,7 @@
 use Rattle.std.proofs.Common.{◌≡◌, ℕ, zero, suc, ◌<◌, Bool, true, false, ◌&&◌, eqb, ltb, List, [], ◌∷◌, ◌++◌, map, length, filter, sym, refl, ap, ◌∙◌, subst, inl, inr, arith}
 use Rattle.std.proofs.ByRecursion.{All-append, All-from_get_or, all_kept_by, All-map, All-weaker}
 use Rattle.std.proofs.lemmas.Bool.{and_from, and_parts, and_right, cases_eq, cond_both, cond-true, eq-eqb, eqb-true, le-ltb, lt-ltb, ltb-true, ne_eqb, or_cases, or_from, or_left, or_right}
-use Rattle.std.specs.List.{flat_map as spread, AllByRecursion as All}
+use Rattle.std.specs.List.{flat_map as spread, AllByRecursion}
 use Rattle.engine.specs.Lines.{every_line, upto}
 use Rattle.engine.proofs.Lists.{all_spread, all_upto, spread_more}
 use Rattle.rules.specs.Orders.{precedes}
@@ -37,7 +37,7 @@ precedes_less_cell c d x y less = or_left _ _ (lt-ltb c d less)
 
 -- Being among lines ------------------------------------------------------------------------------
 
-pub all_among : (P : List ℕ → Type 0) (x : List ℕ) (xs : List (List ℕ)) → All P xs → Among x xs → P x
+pub all_among : (P : List ℕ → Type 0) (x : List ℕ) (xs : List (List ℕ)) → AllByRecursion P xs → Among x xs → P x
 all_among P x [] all h = absurd h
 all_among P x (y ∷ ys) all (inl e) = subst P (sym e) all.0
 all_among P x (y ∷ ys) all (inr h) = all_among P x ys all.1 h
@@ -76,7 +76,7 @@ among_kept_by test x (y ∷ xs) passes (inr h) =
 -- Lists of lines that ascend ---------------------------------------------------------------------
 
 -- the first of them comes behind none
-pub none_before : (x : List ℕ) (xs : List (List ℕ)) → Ascending (x ∷ xs) → All (λ y. precedes y x ≡ false) (x ∷ xs)
+pub none_before : (x : List ℕ) (xs : List (List ℕ)) → Ascending (x ∷ xs) → AllByRecursion (λ y. precedes y x ≡ false) (x ∷ xs)
 none_before x xs up =
     (precedes_not_itself x, All-weaker (λ y. precedes x y ≡ true) (λ y. precedes y x ≡ false) (precedes_one_way x) xs up.0)
 
@@ -86,7 +86,7 @@ ascending_kept_by test (x ∷ xs) up =
     let later = ascending_kept_by test xs up.1 in
     cond_both (test x) (x ∷ filter test xs) (filter test xs) Ascending (λ _. (all_kept_by test (λ y. precedes x y ≡ true) xs up.0, later)) (λ _. later)
 
-ascending-++ : (xs ys : List (List ℕ)) → Ascending xs → Ascending ys → All (λ x. All (λ y. precedes x y ≡ true) ys) xs → Ascending (xs ++ ys)
+ascending-++ : (xs ys : List (List ℕ)) → Ascending xs → Ascending ys → AllByRecursion (λ x. AllByRecursion (λ y. precedes x y ≡ true) ys) xs → Ascending (xs ++ ys)
 ascending-++ [] ys up-xs up-ys across = up-ys
 ascending-++ (x ∷ xs) ys up-xs up-ys across =
     (All-append (λ y. precedes x y ≡ true) xs ys up-xs.0 across.0, ascending-++ xs ys up-xs.1 up-ys across.1)
@@ -101,13 +101,13 @@ ascending_begun c (x ∷ xs) up =
     (All-map (λ y. precedes (c ∷ x) y ≡ true) (λ cells. c ∷ cells) xs (All-weaker (λ y. precedes x y ≡ true) (λ y. precedes (c ∷ x) (c ∷ y) ≡ true) (precedes_same_cell c x) xs up.0), ascending_begun c xs up.1)
 
 -- what holds of every line that begins with a cell holds of all lines that go on from it
-all_begun : (P : List ℕ → Type 0) (c : ℕ) (xs : List (List ℕ)) → ((x : List ℕ) → P (c ∷ x)) → All P (begun xs c)
+all_begun : (P : List ℕ → Type 0) (c : ℕ) (xs : List (List ℕ)) → ((x : List ℕ) → P (c ∷ x)) → AllByRecursion P (begun xs c)
 all_begun P c xs each = All-map P (λ cells. c ∷ cells) xs (All-from_get_or (λ x. P (c ∷ x)) xs [] (λ i _. each _))
 
 ascending_spread : (xs : List (List ℕ)) → Ascending xs → (n : ℕ) → Ascending (spread (begun xs) (upto n))
 ascending_spread xs up zero = tt
 ascending_spread xs up (suc n) =
-    let across = all_spread (λ x. All (λ y. precedes x y ≡ true) (begun xs n)) (λ c. c < n) (begun xs) (upto n) (all_upto n)
+    let across = all_spread (λ x. AllByRecursion (λ y. precedes x y ≡ true) (begun xs n)) (λ c. c < n) (begun xs) (upto n) (all_upto n)
     (λ c less. all_begun _ c xs (λ x. all_begun (λ y. precedes (c ∷ x) y ≡ true) n xs (λ y. precedes_less_cell c n x y less))) in
     subst Ascending (sym (spread_more (begun xs) n))
     (ascending-++ (spread (begun xs) (upto n)) (begun xs n) (ascending_spread xs up n) (ascending_begun n xs up) across)
@@ -118,7 +118,7 @@ pub every_line_ascending : (n : ℕ) → Ascending (every_line n)
 every_line_ascending zero = (tt, tt)
 every_line_ascending (suc n) = ascending_spread (every_line n) (every_line_ascending n) 48
 
-pub among_every_line : (n : ℕ) (line : List ℕ) → length line ≡ n → All (λ c. c < 48) line → Among line (every_line n)
+pub among_every_line : (n : ℕ) (line : List ℕ) → length line ≡ n → AllByRecursion (λ c. c < 48) line → Among line (every_line n)
 among_every_line zero [] size small = inl refl
 among_every_line zero (c ∷ cs) size small = absurd (omega arith)
 among_every_line (suc n) [] size small = absurd (omega arith)

@@ -1,6 +1,6 @@
 -- The questions in the subject's words: what the answers mean for all standing lines. Assumes nothing.
 use Rattle.std.specs.Prelude.{◌≡◌, ℕ, ◌<◌, ◌≤◌, true, false, ◌⊎◌, List, [], ◌∷◌, length, filter, Result, MatchResult}
-use Rattle.std.specs.List.{AllByRecursion as All}
+use Rattle.std.specs.List.{AllByRecursion}
 use Rattle.rules.specs.declared.refusal.Refusal.{Refusal}
 use Rattle.rules.specs.declared.refusal.Refusal.TheVariants.{NotALine, NotKept, BookSaysNo, NoLineStands, NumberNotBelowCount}
 use Rattle.rules.specs.Standing.{Asked, stands, standing_lines}
@@ -41,7 +41,7 @@ Among line (x ∷ xs) = (line ≡ x) ⊎ Among line xs
 -- each line comes before all behind it, so that none is there twice
 abbrev pub Ascending : List (List ℕ) → Type 0
 Ascending [] = Unit {0}
-Ascending (x ∷ xs) = All (λ y. precedes x y ≡ true) xs × Ascending xs
+Ascending (x ∷ xs) = AllByRecursion (λ y. precedes x y ≡ true) xs × Ascending xs
 
 -- the list of standing lines has each line that stands, nothing else, and in order
 pub record ListedExactly (a : Asked) : Type 0 where

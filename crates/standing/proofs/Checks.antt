@@ -1,7 +1,7 @@
 -- From the first no of check to whether a line stands. Assumes nothing.
 use Rattle.std.proofs.Common.{◌≡◌, ℕ, ◌+◌, ◌<◌, ◌≤◌, Bool, true, false, cond, not, ◌&&◌, eqb, List, [], ◌∷◌, length, is_some, Some, None, Err, Option, Result, sym, refl, ap, ◌∙◌, subst, ap₂, arith, MatchResult}
 use mathlib.Core.Bool.{and_assoc}
-use Rattle.std.specs.List.{AllByRecursion as All}
+use Rattle.std.specs.List.{AllByRecursion}
 use Rattle.std.proofs.lemmas.Bool.{and_parts, eq-eqb, false≢true, ne_eqb}
 use Rattle.theme.specs.Refusals.{first_no, or_next, answer}
 use Rattle.theme.proofs.Asked.{first_no-++, first_no_next, first_no_stops}
@@ -90,7 +90,7 @@ module _ (a : Asked) (line : List ℕ) where
 -- Questions asked before ---------------------------------------------------------------------------
 
 -- the first no is one of the questions' refusals
-early : (qs : List (Bool × Refusal)) → All (λ (q : Bool × Refusal). refusal_number q.1 < 27) qs → (e : Refusal) → first_no qs ≡ Some e → refusal_number e < 27
+early : (qs : List (Bool × Refusal)) → AllByRecursion (λ (q : Bool × Refusal). refusal_number q.1 < 27) qs → (e : Refusal) → first_no qs ≡ Some e → refusal_number e < 27
 early [] all e never = let z : ◌≡◌ {A = ℕ} 0 1 = cc in absurd (omega arith)
 early (q ∷ qs) all e some = go (early qs all.1 e) q.0 some
   where

@@ -1,5 +1,5 @@
 use Rattle.std.proofs.Common.{ℕ, List, length, is_some, Option, sym, refl, ap, ◌∙◌, subst}
-use Rattle.std.specs.List.{AllByRecursion as All}
+use Rattle.std.specs.List.{AllByRecursion}
 use Rattle.std.proofs.lemmas.Result.{err_from_is_err_and}
 use Rattle.theme.specs.Refusals.{first_no}
 use Rattle.engine.specs.Answers.{written}
@@ -44,7 +44,7 @@ returns-then-not-find_best g c =
     let h = handed c.args.compass.now (g.B.Book.admits c.args.book.now) (g.B.Book.allows c.args.book.now) in
     let a = asked_of (closed c.args.sheet.now) h in
     let known = c.in_ok-places.ensures in
-    let best = first_movement c.in_ok-places.places (standing_lines a) known.1.few (subst (λ (k : ℕ). All (Sound k) (standing_lines a)) (sym known.1.places_are) (standing_sound a)) known.1.some ∙ ap (λ (k : ℕ). least_of k (standing_lines a)) known.1.places_are in
+    let best = first_movement c.in_ok-places.places (standing_lines a) known.1.few (subst (λ (k : ℕ). AllByRecursion (Sound k) (standing_lines a)) (sym known.1.places_are) (standing_sound a)) known.1.some ∙ ap (λ (k : ℕ). least_of k (standing_lines a)) known.1.places_are in
     let o = first_no (line_questions a.sheet a.compass (length c.args.memory.now) (length c.args.line.now)) in
     let line_is = found_line o NoLineStands known.0 (least_standing a) c.args.line.now _ (c.find_best.ensures.line ∙ ap (λ (o : Option (List ℕ)). written o c.args.line.now) best) in
     let answer-is = missing_answers o NoLineStands known.0 (least_standing a) (sym (c.find_best.ensures.answer ∙ ap is_some best) ∙ c.if-not-find_best.true) in
@@ -63,7 +63,7 @@ returns g c =
     let h = handed c.args.compass.now (g.B.Book.admits c.args.book.now) (g.B.Book.allows c.args.book.now) in
     let a = asked_of (closed c.args.sheet.now) h in
     let known = c.in_ok-places.ensures in
-    let best = first_movement c.in_ok-places.places (standing_lines a) known.1.few (subst (λ (k : ℕ). All (Sound k) (standing_lines a)) (sym known.1.places_are) (standing_sound a)) known.1.some ∙ ap (λ (k : ℕ). least_of k (standing_lines a)) known.1.places_are in
+    let best = first_movement c.in_ok-places.places (standing_lines a) known.1.few (subst (λ (k : ℕ). AllByRecursion (Sound k) (standing_lines a)) (sym known.1.places_are) (standing_sound a)) known.1.some ∙ ap (λ (k : ℕ). least_of k (standing_lines a)) known.1.places_are in
     let o = first_no (line_questions a.sheet a.compass (length c.args.memory.now) (length c.args.line.now)) in
     let line_is = found_line o NoLineStands known.0 (least_standing a) c.args.line.now _ (c.find_best.ensures.line ∙ ap (λ (o : Option (List ℕ)). written o c.args.line.now) best) in
     let answer-is = found_answers o NoLineStands known.0 (least_standing a) (sym (c.find_best.ensures.answer ∙ ap is_some best) ∙ c.if-not-find_best.false) in
