@@ -1,9 +1,7 @@
+use Rattle.std.proofs.Common.{rules}
 use Rattle.rules.specs.Faults.{unweighed}
 use Rattle.rules.proofs.Faultless.{free_kept}
 use Rattle.sheet.proofs.draft.Draft.free.Goals as goal
 
-pub returns : goal.returns
-returns c =
-    let answered = c.free.ensures.answer in
-    let holds = c.free.ensures.held in
-    record { answer = answered; held = holds; course = free_kept unweighed _ _ _ _ answered holds }
+pub returns-clause-course : goal.returns-clause-course
+returns-clause-course c = search (rules, free_kept unweighed)
