@@ -3,7 +3,7 @@
 ghost use Rattle.std.specs.Prelude.{◌≡◌, true, false, MatchResult};
 ghost use Rattle.counterpoint.specs.Interval.{shift_in_range};
 ghost use Rattle.books.specs.Vertical.{vertical_admits, vertical_allows};
-ghost use Rattle.std.proofs.Common.{rules, arith};
+ghost use Rattle.std.proofs.Common.{rules};
 
 use super::raising::{raise, raise_both};
 use counterpoint::book::Book;
@@ -37,7 +37,7 @@ impl<B: Book> Book for Vertical<B> {
 
     ghost allows = { λ layer. vertical_allows (B.allows layer.below) layer.shift };
 
-    ghost bounded = { first_of (Prim.search rules, Prim.grind (arith, Self.row.coded.inj)) };
+    ghost bounded = { Prim.search rules };
 
     fn admits(&self, moment: Moment) -> bool {
         self.below.admits(moment) && self.below.admits(raise(moment, self.shift))
