@@ -21,20 +21,20 @@ pub enum Answer<M> {
 }
 
 // What loading a page tells.
-pub(crate) fn of_page<M>(res: Result<(), PageRefusal>) -> Answer<M>
-    ensures { told result ≡ told_page res }
+pub(crate) fn of_page<M>(outcome: Result<(), PageRefusal>) -> Answer<M>
+    ensures { told result ≡ told_page outcome }
 {
-    match res {
+    match outcome {
         Ok(_) => Answer::Done,
         Err(refusal) => Answer::PageRefused(refusal),
     }
 }
 
 // What a call tells that has nothing to give.
-pub(crate) fn of_call<M>(res: Result<(), Refusal>) -> Answer<M>
-    ensures { told result ≡ told_done res }
+pub(crate) fn of_call<M>(outcome: Result<(), Refusal>) -> Answer<M>
+    ensures { told result ≡ told_done outcome }
 {
-    match res {
+    match outcome {
         Ok(_) => Answer::Done,
         Err(refusal) => Answer::Refused(refusal),
     }
@@ -43,12 +43,12 @@ pub(crate) fn of_call<M>(res: Result<(), Refusal>) -> Answer<M>
 // What a question tells that gives a line.
 pub(crate) fn of_line<M>(
     heap: Global,
-    res: Result<(), Refusal>,
+    outcome: Result<(), Refusal>,
     line: &[u8],
 ) -> Result<Answer<M>, AllocError>
-    ensures { IfOk result (λ a. told a ≡ told_line res line.now) }
+    ensures { IfOk result (λ a. told a ≡ told_line outcome line.now) }
 {
-    if let Err(refusal) = res {
+    if let Err(refusal) = outcome {
         return Ok(Answer::Refused(refusal));
     }
     let mut cells = Vec::new(heap);
@@ -57,20 +57,20 @@ pub(crate) fn of_line<M>(
 }
 
 // What a question tells that gives a number of lines.
-pub(crate) fn of_number<M>(res: Result<u32, Refusal>) -> Answer<M>
-    ensures { told result ≡ told_number res }
+pub(crate) fn of_number<M>(outcome: Result<u32, Refusal>) -> Answer<M>
+    ensures { told result ≡ told_number outcome }
 {
-    match res {
+    match outcome {
         Ok(number) => Answer::Number(number),
         Err(refusal) => Answer::Refused(refusal),
     }
 }
 
 // What a question tells that gives a weight.
-pub(crate) fn of_weight<M>(res: Result<M, Refusal>) -> Answer<M>
-    ensures { told result ≡ told_weight res }
+pub(crate) fn of_weight<M>(outcome: Result<M, Refusal>) -> Answer<M>
+    ensures { told result ≡ told_weight outcome }
 {
-    match res {
+    match outcome {
         Ok(weight) => Answer::Weight(weight),
         Err(refusal) => Answer::Refused(refusal),
     }
