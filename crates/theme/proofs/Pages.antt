@@ -9,7 +9,8 @@ use Rattle.theme.specs.declared.refusal.PageRefusal.{PageRefusal}
 use Rattle.theme.specs.Fields.{number_in, columns_of}
 use Rattle.theme.specs.Refusals.{first_no}
 use Rattle.theme.specs.Themes.{PlainTheme, Lawful, lawful, blank_or_lawful, places_lawful, count_lawful, bar_lawful, marked_well}
-use Rattle.theme.specs.Pages.{head_questions, row_questions, rows_refusal, refusal_of, theme_in, place_in, places_in, count_in, bar_in, key_in, mark_in, mark_of, letter_of, row_of, rows_of, head_of, page_of, page_length, holds_number, ReadsBack, AcceptsExactly}
+use Rattle.theme.specs.Pages.{head_questions, row_questions, rows_refusal, refusal_of, theme_in, place_in, places_in, count_in, bar_in, key_in, mark_in, row_of, rows_of, head_of, page_of, page_length, holds_number, ReadsBack, AcceptsExactly}
+use Rattle.theme.specs.Places.{mark_of, letter_of}
 use Rattle.theme.specs.declared.reading.Head.{Head}
 use Rattle.theme.specs.Held.{Headed}
 use Rattle.theme.proofs.Asked.{none_from_all_yes, or_next_none, or_next_both}

@@ -5,7 +5,8 @@ use Rattle.theme.specs.declared.place.Mark.TheVariants.{Pin}
 use Rattle.theme.specs.Fields.{number_in}
 use Rattle.theme.specs.Refusals.{first_no}
 use Rattle.theme.specs.Themes.{count_lawful, bar_lawful, marked_well}
-use Rattle.theme.specs.Pages.{head_questions, row_questions, count_in, bar_in, key_in, mark_in, mark_of, page_length, holds_number}
+use Rattle.theme.specs.Pages.{head_questions, row_questions, count_in, bar_in, key_in, mark_in, page_length, holds_number}
+use Rattle.theme.specs.Places.{mark_of}
 use Rattle.theme.proofs.Asked.{all_yes}
 
 -- something is what it is

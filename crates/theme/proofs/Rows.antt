@@ -7,7 +7,8 @@ use Rattle.theme.specs.declared.place.Place.{Place}
 use Rattle.theme.specs.declared.refusal.PageRefusal.{PageRefusal}
 use Rattle.theme.specs.Fields.{number_in}
 use Rattle.theme.specs.Refusals.{first_no, or_next}
-use Rattle.theme.specs.Pages.{frame_questions, key_questions, mark_questions, row_questions, place_in, key_in, mark_of, rows_refusal, places_in}
+use Rattle.theme.specs.Pages.{frame_questions, key_questions, mark_questions, row_questions, place_in, key_in, rows_refusal, places_in}
+use Rattle.theme.specs.Places.{mark_of}
 use Rattle.theme.proofs.Asked.{first_no_next, first_no_stops, or_next_none}
 
 -- the key field, as the reader is handed it

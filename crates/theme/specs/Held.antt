@@ -1,12 +1,7 @@
 -- What a theme in memory holds. Assumes nothing.
-use Rattle.std.specs.Prelude.{◌≡◌, ℕ, ◌*◌, ◌≤◌, List, length, drop, vec_items}
+use Rattle.std.specs.Prelude.{◌≡◌, ℕ, ◌*◌, ◌≤◌, List, length, drop}
 use Rattle.theme.specs.declared.reading.Head.{Head}
-use Rattle.theme.specs.declared.theme.Theme.{Theme}
-use Rattle.theme.specs.Themes.{PlainTheme}
 use Rattle.theme.specs.Pages.{count_in, bar_in}
-
-abbrev pub held : Theme → PlainTheme
-held t = record { places = vec_items t.places; bar = t.bar }
 
 -- the head and the rows of a page that its head fits
 pub record Headed (head : Head) (rows page : List ℕ) : Type 0 where

@@ -3,24 +3,19 @@
 --   page_of th       the bytes of a theme's page
 --   theme_in page    the theme that a page holds, where it is accepted
 --   refusal_of page  the first no to a page, if there is one
-use Rattle.std.specs.Prelude.{◌≡◌, ℕ, zero, suc, ◌+◌, ◌*◌, Bool, true, false, cond, List, [], ◌∷◌, ◌++◌, length, drop, is_some, Some, None, Option, ◌==◌, nat_le, nat_lt, slice_index}
+use Rattle.std.specs.Prelude.{◌≡◌, ℕ, zero, suc, ◌+◌, ◌*◌, Bool, true, false, List, [], ◌∷◌, ◌++◌, length, drop, is_some, Some, None, Option, ◌==◌, nat_le, nat_lt, slice_index}
 use Rattle.std.specs.Option.{unwrap_or}
 use Rattle.theme.specs.declared.place.Mark.{Mark}
-use Rattle.theme.specs.declared.place.Mark.TheVariants.{Pin, Bridge}
+use Rattle.theme.specs.declared.place.Mark.TheVariants.{Pin}
 use Rattle.theme.specs.declared.place.Place.{Place}
-use Rattle.theme.specs.declared.refusal.Position.{Position}
 use Rattle.theme.specs.declared.refusal.PageRefusal.{PageRefusal}
-use Rattle.theme.specs.declared.refusal.PageRefusal.TheVariants.{HeadUnended, HeadNotANumber, PlacesOutOfRange, BarUnfit, WrongLength, BrokenRow, WrongPlaceNumber, KeyNotANumber, KeyOutOfRange, UnknownMark, UnlawfulBridge}
+use Rattle.theme.specs.declared.refusal.Reason.TheVariants.{HeadUnended, HeadNotANumber, PlacesOutOfRange, BarUnfit, WrongLength, BrokenRow, WrongPlaceNumber, KeyNotANumber, KeyOutOfRange, UnknownMark, UnlawfulBridge}
 use Rattle.theme.specs.declared.refusal.WriteRefusal.{WriteRefusal}
 use Rattle.theme.specs.declared.refusal.WriteRefusal.TheVariants.{NoTheme, OutputTooShort}
 use Rattle.theme.specs.Fields.{columns_of, number_in}
-use Rattle.theme.specs.Refusals.{first_no, or_next}
+use Rattle.theme.specs.Places.{letter_of, mark_of}
+use Rattle.theme.specs.Refusals.{first_no, or_next, refused}
 use Rattle.theme.specs.Themes.{PlainTheme, Lawful, count_lawful, bar_lawful, marked_well}
-
--- the letter of a mark: p or b
-abbrev pub letter_of : Mark → ℕ
-letter_of Pin = 112
-letter_of Bridge = 98
 
 -- the row of a place: its number, its key, a blank, the letter of its mark, a newline
 abbrev pub row_of : ℕ → Place → List ℕ
@@ -52,9 +47,6 @@ bar_in page = unwrap_or (number_in (drop 4 page)) 0
 abbrev pub key_in : List ℕ → ℕ
 key_in row = unwrap_or (number_in (drop 4 row)) 0
 
-abbrev pub mark_of : ℕ → Option Mark
-mark_of letter = cond (letter == 112) (Some Pin) (cond (letter == 98) (Some Bridge) None)
-
 abbrev pub mark_in : List ℕ → Mark
 mark_in row = unwrap_or (mark_of (slice_index row 9)) Pin
 
@@ -74,37 +66,34 @@ abbrev pub holds_number : Option ℕ → ℕ → Bool
 holds_number None n = false
 holds_number (Some m) n = m == n
 
-abbrev pub at : ℕ → ℕ → Position
-at line column = record { line = line; column = column }
-
 -- what is asked of the head, in this order
 abbrev pub head_questions : List ℕ → List (Bool × PageRefusal)
 head_questions page =
-    ((slice_index page 8 == 10), HeadUnended (at 1 1)) ∷
-    (is_some (number_in page), HeadNotANumber (at 1 1)) ∷
-    (is_some (number_in (drop 4 page)), HeadNotANumber (at 1 5)) ∷
-    (count_lawful (count_in page), PlacesOutOfRange (at 1 1)) ∷
-    (bar_lawful (count_in page) (bar_in page), BarUnfit (at 1 5)) ∷
-    ((length page == page_length (count_in page)), WrongLength (at 1 1)) ∷ []
+    ((slice_index page 8 == 10), refused HeadUnended 1 1) ∷
+    (is_some (number_in page), refused HeadNotANumber 1 1) ∷
+    (is_some (number_in (drop 4 page)), refused HeadNotANumber 1 5) ∷
+    (count_lawful (count_in page), refused PlacesOutOfRange 1 1) ∷
+    (bar_lawful (count_in page) (bar_in page), refused BarUnfit 1 5) ∷
+    ((length page == page_length (count_in page)), refused WrongLength 1 1) ∷ []
 
 -- what is asked of the frame of the row of a place, in this order: the blank, the newline, the number
 abbrev pub frame_questions : ℕ → List ℕ → List (Bool × PageRefusal)
 frame_questions place row =
-    ((slice_index row 8 == 32), BrokenRow (at (place + 2) 9)) ∷
-    ((slice_index row 10 == 10), BrokenRow (at (place + 2) 11)) ∷
-    (holds_number (number_in row) place, WrongPlaceNumber (at (place + 2) 1)) ∷ []
+    ((slice_index row 8 == 32), refused BrokenRow (place + 2) 9) ∷
+    ((slice_index row 10 == 10), refused BrokenRow (place + 2) 11) ∷
+    (holds_number (number_in row) place, refused WrongPlaceNumber (place + 2) 1) ∷ []
 
 -- what is asked of a key field on this line, in this order
 abbrev pub key_questions : ℕ → List ℕ → List (Bool × PageRefusal)
 key_questions line field =
-    (is_some (number_in field), KeyNotANumber (at line 5)) ∷
-    (nat_le (unwrap_or (number_in field) 0) 23, KeyOutOfRange (at line 5)) ∷ []
+    (is_some (number_in field), refused KeyNotANumber line 5) ∷
+    (nat_le (unwrap_or (number_in field) 0) 23, refused KeyOutOfRange line 5) ∷ []
 
 -- what is asked of a mark on this line, at this key after that one if any, in this order
 abbrev pub mark_questions : ℕ → Option ℕ → ℕ → ℕ → List (Bool × PageRefusal)
 mark_questions line before key letter =
-    (is_some (mark_of letter), UnknownMark (at line 10)) ∷
-    (marked_well before (unwrap_or (mark_of letter) Pin) key, UnlawfulBridge (at line 10)) ∷ []
+    (is_some (mark_of letter), refused UnknownMark line 10) ∷
+    (marked_well before (unwrap_or (mark_of letter) Pin) key, refused UnlawfulBridge line 10) ∷ []
 
 -- what is asked of the row of a place, after this key if any, in this order
 abbrev pub row_questions : ℕ → Option ℕ → List ℕ → List (Bool × PageRefusal)

@@ -1,8 +1,8 @@
 -- Refusals by number, and a call's first no. Assumes nothing.
-use Rattle.std.specs.Prelude.{ℕ, Bool, cond, List, [], ◌∷◌, Some, None, Ok, Err, Option, Result}
-use Rattle.theme.specs.declared.refusal.Position.{Position}
+use Rattle.std.specs.Prelude.{ℕ, Bool, cond, List, [], ◌∷◌, ◌++◌, codes, decimal, Some, None, Ok, Err, Option, Result}
 use Rattle.theme.specs.declared.refusal.PageRefusal.{PageRefusal}
-use Rattle.theme.specs.declared.refusal.PageRefusal.TheVariants.{HeadUnended, HeadNotANumber, PlacesOutOfRange, BarUnfit, WrongLength, BrokenRow, WrongPlaceNumber, KeyNotANumber, KeyOutOfRange, UnknownMark, UnlawfulBridge}
+use Rattle.theme.specs.declared.refusal.Reason.{Reason}
+use Rattle.theme.specs.declared.refusal.Reason.TheVariants.{HeadUnended, HeadNotANumber, PlacesOutOfRange, BarUnfit, WrongLength, BrokenRow, WrongPlaceNumber, KeyNotANumber, KeyOutOfRange, UnknownMark, UnlawfulBridge}
 use Rattle.theme.specs.declared.refusal.WriteRefusal.{WriteRefusal}
 use Rattle.theme.specs.declared.refusal.WriteRefusal.TheVariants.{NoTheme, OutputTooShort}
 
@@ -21,33 +21,32 @@ abbrev pub answer : {X R : Type 0} → X → Option R → Result X R
 answer x None = Ok x
 answer x (Some r) = Err r
 
--- the number of each refusal of a page
-abbrev pub page_number : PageRefusal → ℕ
-page_number (HeadUnended at) = 1
-page_number (HeadNotANumber at) = 2
-page_number (PlacesOutOfRange at) = 3
-page_number (BarUnfit at) = 4
-page_number (WrongLength at) = 5
-page_number (BrokenRow at) = 6
-page_number (WrongPlaceNumber at) = 7
-page_number (KeyNotANumber at) = 8
-page_number (KeyOutOfRange at) = 9
-page_number (UnknownMark at) = 10
-page_number (UnlawfulBridge at) = 11
+-- the number of each reason to refuse a page
+abbrev pub reason_number : Reason → ℕ
+reason_number HeadUnended = 1
+reason_number HeadNotANumber = 2
+reason_number PlacesOutOfRange = 3
+reason_number BarUnfit = 4
+reason_number WrongLength = 5
+reason_number BrokenRow = 6
+reason_number WrongPlaceNumber = 7
+reason_number KeyNotANumber = 8
+reason_number KeyOutOfRange = 9
+reason_number UnknownMark = 10
+reason_number UnlawfulBridge = 11
 
--- the line and column that come with it
-abbrev pub page_position : PageRefusal → Position
-page_position (HeadUnended at) = at
-page_position (HeadNotANumber at) = at
-page_position (PlacesOutOfRange at) = at
-page_position (BarUnfit at) = at
-page_position (WrongLength at) = at
-page_position (BrokenRow at) = at
-page_position (WrongPlaceNumber at) = at
-page_position (KeyNotANumber at) = at
-page_position (KeyOutOfRange at) = at
-page_position (UnknownMark at) = at
-page_position (UnlawfulBridge at) = at
+-- a refused field, by its line and column
+abbrev pub refused : Reason → ℕ → ℕ → PageRefusal
+refused reason line column = record { reason = reason; at = record { line = line; column = column } }
+
+-- the number of a refusal of a page
+abbrev pub page_number : PageRefusal → ℕ
+page_number r = reason_number r.reason
+
+-- the words for it: its number, and where it came
+abbrev pub page_refused_words : PageRefusal → List ℕ
+page_refused_words r =
+    codes "refused " ++ (decimal (page_number r) ++ (codes " at " ++ (decimal r.at.line ++ (codes ":" ++ decimal r.at.column))))
 
 -- the number of each refusal to write a page
 abbrev pub write_number : WriteRefusal → ℕ

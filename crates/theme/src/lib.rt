@@ -3,7 +3,6 @@
 #![tactic(auto)]
 
 pub mod field;
-mod holding;
 pub mod place;
 mod reading;
 pub mod refusal;

@@ -2,14 +2,13 @@
 ghost use Rattle.std.specs.Prelude.{◌≡◌, ◌*◌, ◌≤◌, length, is_ok, if◌then◌else◌, Some, None, vec_capacity, MatchResult, ◌==◌, slice_index};
 ghost use Rattle.theme.specs.Refusals.{first_no, answer};
 ghost use Rattle.theme.specs.Pages.{head_questions, rows_refusal, places_in, refusal_of, theme_in, AcceptsExactly};
-ghost use Rattle.theme.specs.Held.{held, Headed};
+ghost use Rattle.theme.specs.Held.{Headed};
 
 use super::field::read_field;
-use super::holding::MOST_PLACES;
 use super::place::Place;
-use super::refusal::{PageRefusal, Position};
+use super::refusal::{PageRefusal, Reason};
 use super::row::read_row;
-use super::theme::Theme;
+use super::theme::{MOST_PLACES, Theme};
 
 // What the head of a page says.
 #[derive(Clone, Copy)]
@@ -29,27 +28,25 @@ fn head_ended(page: &[u8]) -> bool
 fn read_head(page: &[u8]) -> Result<(Head, &[u8]), PageRefusal>
     ensures { MatchResult result (λ x. (first_no (head_questions page.now) ≡ None) × Headed x.0 x.1.now page.now) (λ e. first_no (head_questions page.now) ≡ Some e) }
 {
-    let start = Position { line: 1, column: 1 };
-    let second = Position { line: 1, column: 5 };
     if !head_ended(page) {
-        return Err(PageRefusal::HeadUnended(start));
+        return Err(Reason::HeadUnended.at(1, 1));
     }
     let Ok((count, rest)) = read_field(page) else {
-        return Err(PageRefusal::HeadNotANumber(start));
+        return Err(Reason::HeadNotANumber.at(1, 1));
     };
     let Ok((bar, _)) = read_field(rest) else {
-        return Err(PageRefusal::HeadNotANumber(second));
+        return Err(Reason::HeadNotANumber.at(1, 5));
     };
     let count = count as usize;
     let bar = bar as usize;
     if count < 1 || count > MOST_PLACES {
-        return Err(PageRefusal::PlacesOutOfRange(start));
+        return Err(Reason::PlacesOutOfRange.at(1, 1));
     }
     if bar < 1 || bar > count || count % bar != 0 {
-        return Err(PageRefusal::BarUnfit(second));
+        return Err(Reason::BarUnfit.at(1, 5));
     }
     if page.len() != 9 + 11 * count {
-        return Err(PageRefusal::WrongLength(start));
+        return Err(Reason::WrongLength.at(1, 1));
     }
     Ok((Head { count, bar }, &page[9..]))
 }
@@ -99,8 +96,8 @@ impl Theme {
     /// Reads a theme from its page in the place of the one held, or refuses and changes nothing.
     pub fn read(&mut self, page: &[u8]) -> Result<(), PageRefusal>
         ensures answer { result ≡ answer tt (refusal_of page.now) }
-        ensures held { held self.new ≡ (if is_ok result then theme_in page.now else held self.old) }
-        ensures exactly { AcceptsExactly page.now (is_ok result) (held self.new) }
+        ensures held { self.new ≡ (if is_ok result then theme_in page.now else self.old) }
+        ensures exactly { AcceptsExactly page.now (is_ok result) self.new }
     {
         let (head, rows) = examine(page)?;
         fill(&mut self.places, rows, head.count);

@@ -1,98 +1,106 @@
 // Why a page is not read or not written. Knows nothing of themes.
-ghost use Rattle.std.specs.Prelude.{◌≡◌};
-ghost use Rattle.theme.specs.Refusals.{page_number, page_position, write_number};
+ghost use Rattle.std.specs.Prelude.{◌≡◌, Some};
+ghost use Rattle.theme.specs.Refusals.{page_number, page_refused_words, refused, write_number};
+
+use std::error::Error;
+use std::fmt;
 
 /// Where a field of a page starts: its line and its column, both counted from 1.
-#[derive(Clone, Copy, PartialEq, Eq, Debug)]
+#[derive(Clone, Copy, PartialEq, Eq, Hash, Debug)]
 pub struct Position {
     pub line: usize,
     pub column: usize,
 }
 
-/// The first thing that is wrong with a page, and where.
-#[derive(Clone, Copy, PartialEq, Eq, Debug)]
-pub enum PageRefusal {
+/// What is wrong with a page.
+#[derive(Clone, Copy, PartialEq, Eq, Hash, Debug)]
+pub enum Reason {
     /// The ninth byte is no newline.
-    HeadUnended(Position),
+    HeadUnended = 1,
     /// The number of places or the bar length is no number.
-    HeadNotANumber(Position),
+    HeadNotANumber = 2,
     /// The number of places is not 1 to 64.
-    PlacesOutOfRange(Position),
+    PlacesOutOfRange = 3,
     /// The bar length is not 1 to the number of places, or does not divide it.
-    BarUnfit(Position),
+    BarUnfit = 4,
     /// The page is longer or shorter than its head says.
-    WrongLength(Position),
+    WrongLength = 5,
     /// A row lacks the blank before its mark or the newline at its end.
-    BrokenRow(Position),
+    BrokenRow = 6,
     /// A row does not begin with the number of its place.
-    WrongPlaceNumber(Position),
+    WrongPlaceNumber = 7,
     /// The key is no number; an empty field is none.
-    KeyNotANumber(Position),
+    KeyNotANumber = 8,
     /// The key is above 23.
-    KeyOutOfRange(Position),
+    KeyOutOfRange = 9,
     /// The mark is neither `p` nor `b`.
-    UnknownMark(Position),
+    UnknownMark = 10,
     /// A bridge at place 0, or one that does not repeat the key before it.
-    UnlawfulBridge(Position),
+    UnlawfulBridge = 11,
 }
 
-impl PageRefusal {
-    /// The number by which the workshop knows this refusal.
-    pub fn number(&self) -> u32
-        ensures { result ≡ page_number self.now }
-    {
-        match self {
-            PageRefusal::HeadUnended(_) => 1,
-            PageRefusal::HeadNotANumber(_) => 2,
-            PageRefusal::PlacesOutOfRange(_) => 3,
-            PageRefusal::BarUnfit(_) => 4,
-            PageRefusal::WrongLength(_) => 5,
-            PageRefusal::BrokenRow(_) => 6,
-            PageRefusal::WrongPlaceNumber(_) => 7,
-            PageRefusal::KeyNotANumber(_) => 8,
-            PageRefusal::KeyOutOfRange(_) => 9,
-            PageRefusal::UnknownMark(_) => 10,
-            PageRefusal::UnlawfulBridge(_) => 11,
-        }
-    }
+/// The first thing that is wrong with a page, and where the field starts that was refused.
+#[derive(Clone, Copy, PartialEq, Eq, Hash, Debug)]
+pub struct PageRefusal {
+    pub reason: Reason,
+    pub at: Position,
+}
 
-    /// Where the field starts that was refused.
-    pub fn position(&self) -> Position
-        ensures { result ≡ page_position self.now }
+impl Reason {
+    /// The refusal of the field at this line and column.
+    pub fn at(self, line: usize, column: usize) -> PageRefusal
+        ensures { result ≡ refused self line column }
     {
-        match self {
-            PageRefusal::HeadUnended(at)
-            | PageRefusal::HeadNotANumber(at)
-            | PageRefusal::PlacesOutOfRange(at)
-            | PageRefusal::BarUnfit(at)
-            | PageRefusal::WrongLength(at)
-            | PageRefusal::BrokenRow(at)
-            | PageRefusal::WrongPlaceNumber(at)
-            | PageRefusal::KeyNotANumber(at)
-            | PageRefusal::KeyOutOfRange(at)
-            | PageRefusal::UnknownMark(at)
-            | PageRefusal::UnlawfulBridge(at) => *at,
+        PageRefusal {
+            reason: self,
+            at: Position { line, column },
         }
     }
 }
+
+/// The number by which the workshop knows a refusal.
+impl From<PageRefusal> for u32 {
+    ghost from_gives = { λ refusal number. number ≡ page_number refusal };
+
+    fn from(refusal: PageRefusal) -> u32 {
+        refusal.reason as u32
+    }
+}
+
+impl fmt::Display for PageRefusal {
+    ghost output = { λ refusal. Some (page_refused_words refusal) };
+
+    fn fmt<W: fmt::Write>(&self, f: &mut fmt::Formatter<W>) -> fmt::Result {
+        let number = u32::from(*self);
+        write!(f, "refused {number} at {}:{}", self.at.line, self.at.column)
+    }
+}
+
+impl Error for PageRefusal {}
 
 /// Why a theme's page is not written.
-#[derive(Clone, Copy, PartialEq, Eq, Debug)]
+#[derive(Clone, Copy, PartialEq, Eq, Hash, Debug)]
 pub enum WriteRefusal {
     /// No page has been read yet.
-    NoTheme,
+    NoTheme = 12,
     /// The buffer is shorter than the page.
-    OutputTooShort,
+    OutputTooShort = 37,
 }
 
-impl WriteRefusal {
-    /// The number by which the workshop knows this refusal.
-    pub fn number(&self) -> u32
-        ensures { result ≡ write_number self.now }
-    {
-        match self {
-            WriteRefusal::NoTheme => 12,
-            WriteRefusal::OutputTooShort => 37,
-        }
+/// The number by which the workshop knows a refusal.
+impl From<WriteRefusal> for u32 {
+    ghost from_gives = { λ refusal number. number ≡ write_number refusal };
+
+    fn from(refusal: WriteRefusal) -> u32 {
+        refusal as u32
     }
 }
+
+impl fmt::Display for WriteRefusal {
+    fn fmt<W: fmt::Write>(&self, f: &mut fmt::Formatter<W>) -> fmt::Result {
+        let number = u32::from(*self);
+        write!(f, "refused {number}")
+    }
+}
+
+impl Error for WriteRefusal {}

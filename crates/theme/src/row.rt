@@ -2,25 +2,12 @@
 ghost use Rattle.std.specs.Prelude.{◌≡◌, ◌<◌, ◌≤◌, length, drop, Some, None, MatchResult};
 ghost use Rattle.theme.specs.Refusals.{first_no};
 ghost use Rattle.theme.specs.Fields.{number_in};
-ghost use Rattle.theme.specs.Pages.{mark_of, place_in, frame_questions, key_questions, mark_questions, row_questions, letter_of, row_of};
+ghost use Rattle.theme.specs.Places.{mark_of};
+ghost use Rattle.theme.specs.Pages.{place_in, frame_questions, key_questions, mark_questions, row_questions, row_of};
 
 use super::field::{columns, read_field};
-use super::place::{Mark, Place};
-use super::refusal::{PageRefusal, Position};
-
-/// The highest key.
-const HIGHEST_KEY: u32 = 23;
-
-// The mark that a letter stands for.
-fn mark(letter: u8) -> Option<Mark>
-    ensures { result ≡ mark_of letter }
-{
-    match char::from(letter) {
-        'p' => Some(Mark::Pin),
-        'b' => Some(Mark::Bridge),
-        _ => None,
-    }
-}
+use super::place::{HIGHEST_KEY, Mark, Place};
+use super::refusal::{PageRefusal, Reason};
 
 // Sees that the row of a place has its blank, its newline and its number.
 fn check_frame(row: &[u8], place: usize) -> Result<(), PageRefusal>
@@ -29,14 +16,14 @@ fn check_frame(row: &[u8], place: usize) -> Result<(), PageRefusal>
 {
     let line = place + 2;
     if row[8] != b' ' {
-        return Err(PageRefusal::BrokenRow(Position { line, column: 9 }));
+        return Err(Reason::BrokenRow.at(line, 9));
     }
     if row[10] != b'\n' {
-        return Err(PageRefusal::BrokenRow(Position { line, column: 11 }));
+        return Err(Reason::BrokenRow.at(line, 11));
     }
     match read_field(row) {
         Ok((number, _)) if number as usize == place => Ok(()),
-        _ => Err(PageRefusal::WrongPlaceNumber(Position { line, column: 1 })),
+        _ => Err(Reason::WrongPlaceNumber.at(line, 1)),
     }
 }
 
@@ -45,10 +32,10 @@ fn read_key(field: &[u8], line: usize) -> Result<u8, PageRefusal>
     ensures { MatchResult result (λ key. (first_no (key_questions line field.now) ≡ None) × (number_in field.now ≡ Some key)) (λ e. first_no (key_questions line field.now) ≡ Some e) }
 {
     let Ok((key, _)) = read_field(field) else {
-        return Err(PageRefusal::KeyNotANumber(Position { line, column: 5 }));
+        return Err(Reason::KeyNotANumber.at(line, 5));
     };
-    if key > HIGHEST_KEY {
-        return Err(PageRefusal::KeyOutOfRange(Position { line, column: 5 }));
+    if key > u32::from(HIGHEST_KEY) {
+        return Err(Reason::KeyOutOfRange.at(line, 5));
     }
     Ok(key as u8)
 }
@@ -57,11 +44,11 @@ fn read_key(field: &[u8], line: usize) -> Result<u8, PageRefusal>
 fn read_mark(letter: u8, line: usize, before: Option<u8>, key: u8) -> Result<Mark, PageRefusal>
     ensures { MatchResult result (λ mark. (first_no (mark_questions line before key letter) ≡ None) × (mark_of letter ≡ Some mark)) (λ e. first_no (mark_questions line before key letter) ≡ Some e) }
 {
-    let Some(mark) = mark(letter) else {
-        return Err(PageRefusal::UnknownMark(Position { line, column: 10 }));
+    let Ok(mark) = Mark::try_from(letter) else {
+        return Err(Reason::UnknownMark.at(line, 10));
     };
     if mark == Mark::Bridge && before != Some(key) {
-        return Err(PageRefusal::UnlawfulBridge(Position { line, column: 10 }));
+        return Err(Reason::UnlawfulBridge.at(line, 10));
     }
     Ok(mark)
 }
@@ -83,16 +70,6 @@ pub(crate) fn read_row(
     Ok((Place { key, mark }, &text[11..]))
 }
 
-// The letter of a mark.
-fn letter(mark: Mark) -> u8
-    ensures { result ≡ letter_of mark }
-{
-    match mark {
-        Mark::Pin => b'p',
-        Mark::Bridge => b'b',
-    }
-}
-
 // The row of a place with this number.
 pub(crate) fn row(number: usize, place: Place) -> [u8; 11]
     requires { number < 64 }
@@ -100,5 +77,5 @@ pub(crate) fn row(number: usize, place: Place) -> [u8; 11]
 {
     let [a, b, c, d] = columns(number as u32);
     let [e, f, g, h] = columns(u32::from(place.key));
-    [a, b, c, d, e, f, g, h, b' ', letter(place.mark), b'\n']
+    [a, b, c, d, e, f, g, h, b' ', u8::from(place.mark), b'\n']
 }

@@ -20,10 +20,7 @@ mod tests {
     fn answer(theme: &mut Theme, page: &[u8]) -> Option<(u32, usize, usize)> {
         match theme.read(page) {
             Ok(()) => None,
-            Err(refusal) => {
-                let at = refusal.position();
-                Some((refusal.number(), at.line, at.column))
-            }
+            Err(refusal) => Some((u32::from(refusal), refusal.at.line, refusal.at.column)),
         }
     }
 

@@ -20,10 +20,7 @@ pub invariant_of-self : goal.invariant_of-self
 invariant_of-self c =
     let known = c.in_ok-head.ensures in
     let is = filled_theme c.args.page.now c.in_ok-head.rows.now c.in_ok-head.head (vec_items c.fill.new.places) known.1 c.fill.ensures.items in
-    record {
-      roomy = c.fill.ensures.capacity;
-      well = lawful_held (vec_items c.fill.new.places) c.in_ok-head.head.bar (ap lawful is ∙ (accepted_back c.args.page.now known.0).0);
-    }
+    (c.fill.ensures.capacity, lawful_held (vec_items c.fill.new.places) c.in_ok-head.head.bar (ap lawful is ∙ (accepted_back c.args.page.now known.0).0))
 
 pub returns : goal.returns
 returns c =
