@@ -4,7 +4,8 @@
 --   questions    what a call asks, in order, each with the refusal for a no
 --   added ..     what an accepted call makes of a plain sheet
 --   unless       what is held after a call: as before where it was refused
-use Rattle.std.specs.Prelude.{ℕ, Bool, true, false, cond, not, ◌&&◌, List, [], ◌∷◌, ◌++◌, length, replicate, ℤ, pos, negsuc, Some, None, Option, ◌==◌, int_le, int_lt, nat_le, nat_lt, slice_set, unsigned_abs}
+use Rattle.std.specs.Prelude.{ℕ, Bool, true, false, cond, not, ◌&&◌, List, [], ◌∷◌, ◌++◌, length, replicate, ℤ, pos, Some, None, Option, ◌==◌, int_le, int_lt, nat_le, nat_lt, slice_set, unsigned_abs}
+use Rattle.std.specs.Ordering.{int_eq}
 use Rattle.counterpoint.specs.Interval.{shift_in_range}
 use Rattle.theme.specs.Themes.{PlainTheme, blank_theme}
 use Rattle.theme.specs.Pages.{theme_in}
@@ -35,14 +36,8 @@ unless (Some refusal) after before = before
 abbrev pub original : Combination
 original = record { jv = pos 0; entry = 0 }
 
-abbrev pub same_shift : ℤ → ℤ → Bool
-same_shift (pos a) (pos b) = a == b
-same_shift (pos a) (negsuc b) = false
-same_shift (negsuc a) (pos b) = false
-same_shift (negsuc a) (negsuc b) = a == b
-
 abbrev pub same : Combination → Combination → Bool
-same a b = same_shift a.jv b.jv && a.entry == b.entry
+same a b = int_eq a.jv b.jv && a.entry == b.entry
 
 abbrev pub listed : Combination → List Combination → Bool
 listed c [] = false

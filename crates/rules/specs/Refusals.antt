@@ -1,5 +1,7 @@
--- Refusals by number. Assumes nothing.
-use Rattle.std.specs.Prelude.{ℕ}
+-- Refusals by number, and in words. Assumes nothing.
+use Rattle.std.specs.Prelude.{ℕ, List, ◌++◌, codes, decimal}
+use Rattle.theme.specs.declared.refusal.WriteRefusal.{WriteRefusal}
+use Rattle.theme.specs.declared.refusal.WriteRefusal.TheVariants as theirs
 use Rattle.rules.specs.declared.refusal.Refusal.{Refusal}
 use Rattle.rules.specs.declared.refusal.Refusal.TheVariants.{NoTheme, ShiftOutOfRange, EntryOutOfRange, AlreadyListed, ListFull, NotListed, PlaceOutOfRange, KeyOutOfRange, CompassUnfit, TrialPlaceOutOfRange, TrialKeyOutOfCompass, TrialBeyondTheme, MemoryTooShort, LineUnfit, NumberTooLarge, NotALine, NotKept, BookSaysNo, NoLineStands, NumberNotBelowCount, OutputTooShort}
 
@@ -25,3 +27,36 @@ refusal_number (BookSaysNo combination place) = 29
 refusal_number NoLineStands = 30
 refusal_number NumberNotBelowCount = 31
 refusal_number OutputTooShort = 37
+
+-- a theme's refusal to be written, as a refusal of the sheet
+abbrev pub sheet_refusal : WriteRefusal → Refusal
+sheet_refusal theirs.NoTheme = NoTheme
+sheet_refusal theirs.OutputTooShort = OutputTooShort
+
+-- where a refusal came, in words
+abbrev pub place_words : Refusal → List ℕ
+place_words (NotALine place) = codes " at place " ++ decimal place
+place_words (NotKept place) = codes " at place " ++ decimal place
+place_words (BookSaysNo combination place) = codes " in combination " ++ (decimal combination ++ (codes " at place " ++ decimal place))
+place_words NoTheme = codes ""
+place_words ShiftOutOfRange = codes ""
+place_words EntryOutOfRange = codes ""
+place_words AlreadyListed = codes ""
+place_words ListFull = codes ""
+place_words NotListed = codes ""
+place_words PlaceOutOfRange = codes ""
+place_words KeyOutOfRange = codes ""
+place_words CompassUnfit = codes ""
+place_words TrialPlaceOutOfRange = codes ""
+place_words TrialKeyOutOfCompass = codes ""
+place_words TrialBeyondTheme = codes ""
+place_words MemoryTooShort = codes ""
+place_words LineUnfit = codes ""
+place_words NumberTooLarge = codes ""
+place_words NoLineStands = codes ""
+place_words NumberNotBelowCount = codes ""
+place_words OutputTooShort = codes ""
+
+-- a refusal in words: its number, and where it came
+abbrev pub refused_words : Refusal → List ℕ
+refused_words r = codes "refused " ++ (decimal (refusal_number r) ++ place_words r)

@@ -2,7 +2,7 @@
 // Knows nothing of sheets.
 
 /// A setting: the line raised by `jv` keys, and begun at the theme's place `entry`.
-#[derive(Clone, Copy, PartialEq, Eq, Debug)]
+#[derive(Clone, Copy, PartialEq, Eq, Hash, Debug)]
 pub struct Combination {
     pub jv: i32,
     pub entry: usize,

@@ -1,9 +1,13 @@
 // Why a call on a sheet, a compass or a line says no. Knows nothing of any of them.
-ghost use Rattle.std.specs.Prelude.{◌≡◌};
-ghost use Rattle.rules.specs.Refusals.{refusal_number};
+ghost use Rattle.std.specs.Prelude.{◌≡◌, Some};
+ghost use Rattle.rules.specs.Refusals.{refusal_number, refused_words, sheet_refusal};
+
+use std::error::Error;
+use std::fmt;
+use theme::refusal::WriteRefusal;
 
 /// The first no of a call. A case carries what its answer adds to the number.
-#[derive(Clone, Copy, PartialEq, Eq, Debug)]
+#[derive(Clone, Copy, PartialEq, Eq, Hash, Debug)]
 pub enum Refusal {
     /// No theme is loaded.
     NoTheme,
@@ -49,12 +53,12 @@ pub enum Refusal {
     OutputTooShort,
 }
 
-impl Refusal {
-    /// The number by which the workshop knows this refusal.
-    pub fn number(&self) -> u32
-        ensures { result ≡ refusal_number self.now }
-    {
-        match self {
+/// The number by which the workshop knows a refusal.
+impl From<Refusal> for u32 {
+    ghost from_gives = { λ refusal number. number ≡ refusal_number refusal };
+
+    fn from(refusal: Refusal) -> u32 {
+        match refusal {
             Refusal::NoTheme => 12,
             Refusal::ShiftOutOfRange => 13,
             Refusal::EntryOutOfRange => 14,
@@ -70,15 +74,46 @@ impl Refusal {
             Refusal::MemoryTooShort => 24,
             Refusal::LineUnfit => 25,
             Refusal::NumberTooLarge => 26,
-            Refusal::NotALine { place: _ } => 27,
-            Refusal::NotKept { place: _ } => 28,
-            Refusal::BookSaysNo {
-                combination: _,
-                place: _,
-            } => 29,
+            Refusal::NotALine { .. } => 27,
+            Refusal::NotKept { .. } => 28,
+            Refusal::BookSaysNo { .. } => 29,
             Refusal::NoLineStands => 30,
             Refusal::NumberNotBelowCount => 31,
             Refusal::OutputTooShort => 37,
         }
     }
 }
+
+/// A theme's refusal to be written, as a refusal of the sheet that has the theme.
+impl From<WriteRefusal> for Refusal {
+    ghost from_gives = { λ theirs ours. ours ≡ sheet_refusal theirs };
+
+    fn from(refusal: WriteRefusal) -> Refusal {
+        match refusal {
+            WriteRefusal::NoTheme => Refusal::NoTheme,
+            WriteRefusal::OutputTooShort => Refusal::OutputTooShort,
+        }
+    }
+}
+
+impl fmt::Display for Refusal {
+    ghost output = { λ refusal. Some (refused_words refusal) };
+
+    fn fmt<W: fmt::Write>(&self, f: &mut fmt::Formatter<W>) -> fmt::Result {
+        let number = u32::from(*self);
+        match self {
+            Refusal::NotALine { place } | Refusal::NotKept { place } => {
+                write!(f, "refused {number} at place {place}")
+            }
+            Refusal::BookSaysNo { combination, place } => {
+                write!(
+                    f,
+                    "refused {number} in combination {combination} at place {place}"
+                )
+            }
+            _ => write!(f, "refused {number}"),
+        }
+    }
+}
+
+impl Error for Refusal {}

@@ -1,84 +1,65 @@
--- Finding a combination in a list, place by place. Assumes nothing.
-use Rattle.std.proofs.Common.{◌≡◌, ℕ, ◌+◌, ◌<◌, ◌≤◌, Bool, true, false, cond, ◌&&◌, eqb, List, [], ◌∷◌, ◌++◌, length, get_or, take, drop, ℤ, pos, negsuc, int_eq, sym, refl, ap, ◌∙◌, append_assoc, add-one, arith}
-use Rattle.std.specs.List.{remove}
-use Rattle.std.specs.Cmp.{signed_Decides}
-use Rattle.std.proofs.lemmas.List.{take_more, drop_more, drop_all}
-use Rattle.std.proofs.lemmas.Bool.{and_from, and_parts, eqb-true, eq-eqb}
+-- Finding a combination in a list. Assumes nothing.
+use Rattle.std.proofs.Common.{◌≡◌, ℕ, suc, ◌+◌, ◌<◌, Bool, true, false, cond, not, ltb, List, [], ◌∷◌, length, is_some, Some, None, Option, sym, refl, ap, ◌∙◌, arith}
+use Rattle.std.specs.List.{position, position_or_len, remove}
+use Rattle.std.proofs.lemmas.Bool.{ltb-true}
+use Rattle.std.proofs.lemmas.Bool.Decides.{nat_tests}
 use Rattle.rules.specs.declared.combination.Combination.{Combination}
-use Rattle.rules.specs.Plain.{same_shift, same, listed, without}
+use Rattle.rules.specs.Plain.{same, listed, without}
 
-same_shift_is : (a b : ℤ) → same_shift a b ≡ true → a ≡ b
-same_shift_is (pos a) (pos b) e = ap pos (eqb-true a b e)
-same_shift_is (pos a) (negsuc b) e = let z : ◌≡◌ {A = ℕ} 0 1 = cc in absurd (omega arith)
-same_shift_is (negsuc a) (pos b) e = let z : ◌≡◌ {A = ℕ} 0 1 = cc in absurd (omega arith)
-same_shift_is (negsuc a) (negsuc b) e = ap negsuc (eqb-true a b e)
+-- how many combinations stand before a wanted one, or in the whole list where it is not listed
+abbrev before_it : Combination → List Combination → ℕ
+before_it wanted list = position_or_len (λ x. same x wanted) list
 
-same_shift_itself : (a : ℤ) → same_shift a a ≡ true
-same_shift_itself (pos a) = eq-eqb a a refl
-same_shift_itself (negsuc a) = eq-eqb a a refl
+one_more : (k n : ℕ) → ltb k n ≡ ltb (1 + k) (suc n)
+one_more k n = grind (arith, nat_tests)
 
-same_is : (a b : Combination) → same a b ≡ true → a ≡ b
-same_is a b e =
-    let p = and_parts (same_shift a.jv b.jv) (eqb a.entry b.entry) e in
-    λ i. record { jv = same_shift_is a.jv b.jv p.0 i; entry = eqb-true a.entry b.entry p.1 i }
+some_more : (n : ℕ) → true ≡ ltb 0 (suc n)
+some_more n = grind (arith, nat_tests)
 
-is_same : (a b : Combination) → a ≡ b → same a b ≡ true
-is_same a b e = ap (λ (x : Combination). same x b) e ∙ and_from _ _ (same_shift_itself b.jv) (eq-eqb b.entry b.entry refl)
+listed_below : (wanted : Combination) (list : List Combination) → listed wanted list ≡ ltb (before_it wanted list) (length list)
+listed_below wanted [] = refl
+listed_below wanted (x ∷ xs) = go (same x wanted) (listed_below wanted xs)
+  where
+    go : (b : Bool) → listed wanted xs ≡ ltb (before_it wanted xs) (length xs) → cond b true (listed wanted xs) ≡ ltb (cond (not b) (1 + before_it wanted xs) 0) (suc (length xs))
+    go true rest = some_more (length xs)
+    go false rest = rest ∙ one_more (before_it wanted xs) (length xs)
 
--- two tests that are true together
-both_true : (x y : Bool) → (x ≡ true → y ≡ true) → (y ≡ true → x ≡ true) → x ≡ y
-both_true true true f g = refl
-both_true true false f g = sym (f refl)
-both_true false true f g = g refl
-both_true false false f g = refl
+removed_there : (wanted : Combination) (list : List Combination) → before_it wanted list < length list → remove list (before_it wanted list) ≡ without wanted list
+removed_there wanted [] below = absurd (omega arith)
+removed_there wanted (x ∷ xs) below = go (same x wanted) below (removed_there wanted xs)
+  where
+    go : (b : Bool) → cond (not b) (1 + before_it wanted xs) 0 < suc (length xs) → (before_it wanted xs < length xs → remove xs (before_it wanted xs) ≡ without wanted xs) → remove (x ∷ xs) (cond (not b) (1 + before_it wanted xs) 0) ≡ cond b xs (x ∷ without wanted xs)
+    go true below rest = refl
+    go false below rest =
+        let one : 1 + before_it wanted xs ≡ suc (before_it wanted xs) = omega arith in
+        ap (remove (x ∷ xs)) one ∙ ap (λ (ys : List Combination). x ∷ ys) (rest (omega arith))
 
-same_shift_eq : (a b : ℤ) → same_shift a b ≡ int_eq a b
-same_shift_eq a b =
-    let d = signed_Decides a b in
-    both_true (same_shift a b) (int_eq a b)
-    (λ e. d.1 (same_shift_is a b e))
-    (λ e. ap (λ x. same_shift x b) (d.0 e) ∙ same_shift_itself b)
+-- a combination is found exactly if it is listed
+listed_position : (wanted : Combination) (list : List Combination) → is_some (position (λ x. same x wanted) list) ≡ listed wanted list
+listed_position wanted list = go (ltb (before_it wanted list) (length list)) ∙ sym (listed_below wanted list)
+  where
+    go : (b : Bool) → is_some (cond b (Some (before_it wanted list)) None) ≡ b
+    go true = refl
+    go false = refl
 
--- what `==` tells of two combinations
-pub same_told : (a b : Combination) (r : Bool) → r ≡ (int_eq a.jv b.jv && eqb a.entry b.entry) → same a b ≡ r
-same_told a b r told = ap (λ (x : Bool). x && eqb a.entry b.entry) (same_shift_eq a.jv b.jv) ∙ sym told
+-- at a place of the list, without which it is the list without the combination
+found_there : (wanted : Combination) (list : List Combination) (i : ℕ) → position (λ x. same x wanted) list ≡ Some i → (i < length list) × (remove list i ≡ without wanted list)
+found_there wanted list i found = go (ltb (before_it wanted list) (length list)) refl found
+  where
+    go : (b : Bool) → ltb (before_it wanted list) (length list) ≡ b → cond b (Some (before_it wanted list)) None ≡ Some i → (i < length list) × (remove list i ≡ without wanted list)
+    go true is found =
+        let at : before_it wanted list ≡ i = cc in
+        let below : before_it wanted list < length list = ltb-true _ _ is in
+        (omega (arith, at, below), ap (remove list) (sym at) ∙ removed_there wanted list below)
+    go false is found = let z : ◌≡◌ {A = ℕ} 0 1 = cc in absurd (omega arith)
 
--- nothing before this place is the one looked for
-pub record Passed (wanted : Combination) (list : List Combination) (i : ℕ) : Type 0 where
-  pub same_answer : listed wanted (drop i list) ≡ listed wanted list
-  pub same_rest : take i list ++ without wanted (drop i list) ≡ without wanted list
+-- what a search for a combination tells of the list that it is sought in
+pub found_listed : {list seen : List Combination} {wanted one : Combination} {o : Option ℕ} → seen ≡ list → one ≡ wanted → o ≡ position (λ x. same x one) seen → listed wanted list ≡ is_some o
+found_listed {list} {seen} {wanted} {one} same-list same-one found =
+    sym (λ i. listed (same-one i) (same-list i)) ∙ sym (listed_position one seen) ∙ sym (ap (λ (p : Option ℕ). is_some p) found)
 
-pub passed_none : (wanted : Combination) (list : List Combination) → Passed wanted list 0
-passed_none wanted list = record { same_answer = refl; same_rest = refl }
-
-module _ {wanted : Combination} {list : List Combination} {i : ℕ} (d : Combination) (below : i < length list) (p : Passed wanted list i) where
-  pub found_here : same (get_or list i d) wanted ≡ true → (listed wanted list ≡ true) × (remove list i ≡ without wanted list)
-  found_here e =
-      let rest = drop_more list i d below in (
-        sym p.same_answer ∙ ap (listed wanted) rest ∙ ap (λ (b : Bool). cond b true (listed wanted (drop (i + 1) list))) e,
-        ap (λ (n : ℕ). take i list ++ drop n list) (sym (add-one i))
-            ∙ sym
-            (sym p.same_rest
-            ∙ ap (λ (xs : List Combination). take i list ++ without wanted xs) rest
-            ∙ ap (λ (b : Bool). take i list ++ cond b (drop (i + 1) list) (get_or list i d ∷ without wanted (drop (i + 1) list))) e),
-      )
-
-  pub passed_more : same (get_or list i d) wanted ≡ false → Passed wanted list (i + 1)
-  passed_more e =
-      let rest = drop_more list i d below in
-      let front = take_more list i d below in
-      record {
-        same_answer =
-            sym
-            (sym p.same_answer ∙ ap (listed wanted) rest ∙ ap (λ (b : Bool). cond b true (listed wanted (drop (i + 1) list))) e);
-        same_rest =
-            ap (λ (xs : List Combination). xs ++ without wanted (drop (i + 1) list)) front
-            ∙ append_assoc (take i list) (get_or list i d ∷ []) (without wanted (drop (i + 1) list))
-            ∙ sym
-            (sym p.same_rest
-            ∙ ap (λ (xs : List Combination). take i list ++ without wanted xs) rest
-            ∙ ap (λ (b : Bool). take i list ++ cond b (drop (i + 1) list) (get_or list i d ∷ without wanted (drop (i + 1) list))) e);
-      }
-
-pub passed_all : (wanted : Combination) (list : List Combination) (i : ℕ) → length list ≤ i → Passed wanted list i → listed wanted list ≡ false
-passed_all wanted list i end p = sym p.same_answer ∙ ap (listed wanted) (drop_all i list end)
+-- and where it is found
+pub found_below : {list seen : List Combination} {wanted one : Combination} {o : Option ℕ} {i : ℕ} → seen ≡ list → one ≡ wanted → o ≡ position (λ x. same x one) seen → o ≡ Some i → (i < length list) × (remove list i ≡ without wanted list)
+found_below {list} {seen} {wanted} {one} {o} {i} same-list same-one found is =
+    let there : position (λ x. same x wanted) list ≡ Some i = sym (λ j. position (λ x. same x (same-one j)) (same-list j)) ∙ sym found ∙ is in
+    found_there wanted list i there

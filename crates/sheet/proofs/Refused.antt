@@ -1,9 +1,8 @@
 -- What a refused or an accepted call answers and holds. Assumes nothing.
-use Rattle.std.proofs.Common.{◌≡◌, ℕ, ◌<◌, Bool, true, false, cond, not, ◌&&◌, ltb, leb, List, [], ◌∷◌, ◌++◌, length, ℤ, pos, negsuc, nat_abs, is_some, Some, None, Ok, Err, Option, Result, sym, refl, ap, ◌∙◌, arith, MatchOption}
-use Rattle.std.specs.List.{remove}
+use Rattle.std.proofs.Common.{◌≡◌, ℕ, Bool, true, false, cond, not, ◌&&◌, ltb, leb, List, [], ◌∷◌, ◌++◌, length, ℤ, pos, negsuc, nat_abs, Some, None, Ok, Err, Option, Result, sym, refl, ap, ◌∙◌, arith}
 use Rattle.std.proofs.lemmas.Bool.{and_from, and_parts}
 use Rattle.theme.specs.Refusals.{first_no, answer}
-use Rattle.theme.proofs.Asked.{all_yes, first_no_next, first_no_stops}
+use Rattle.theme.proofs.Asked.{all_yes, first_no-++, first_no_next, first_no_stops, or_next_none}
 use Rattle.rules.specs.declared.combination.Combination.{Combination}
 use Rattle.rules.specs.declared.refusal.Refusal.{Refusal}
 use Rattle.rules.specs.declared.refusal.Refusal.TheVariants.{AlreadyListed, ListFull, NotListed, KeyOutOfRange}
@@ -32,16 +31,6 @@ pub answer_accepted : {R : Type 0} (o : Option R) → ◌≡◌ {A = Result (Uni
 answer_accepted None is = refl
 answer_accepted (Some r) is = let z : ◌≡◌ {A = ℕ} 0 1 = cc in absurd (omega arith)
 
--- what is found is listed
-pub found_listed : (o : Option ℕ) (list : List Combination) (c : Combination) → MatchOption o (listed c list ≡ false) (λ (i : ℕ). (listed c list ≡ true) × (i < length list) × (remove list i ≡ without c list)) → is_some o ≡ listed c list
-found_listed None list c is = sym is
-found_listed (Some i) list c is = sym is.0
-
--- what remove leaves at the number that was found
-pub left_without : (list seen after : List Combination) (wanted c : Combination) (number : ℕ) → seen ≡ list → c ≡ wanted → after ≡ remove list number → remove seen number ≡ without c seen → after ≡ without wanted list
-left_without list seen after wanted c number same-list same-one removed-is without_is =
-    removed-is ∙ sym (λ i. remove (same-list i) number) ∙ without_is ∙ (λ i. without (same-one i) (same-list i))
-
 -- Calls that ask more than the questions they share ----------------------------------------------
 
 module _ (p : Plain) (jv entry : ℤ) where
@@ -63,6 +52,22 @@ module _ (p : Plain) (jv entry : ℤ) where
   pub add_listed : first_no shared ≡ None → listed (combination_of jv entry) p.list ≡ true → first_no (add_questions p jv entry) ≡ Some AlreadyListed
   add_listed none is = first_no_next shared add_more none ∙ ap (λ (b : Bool). first_no ((not b, AlreadyListed) ∷ (ltb (length p.list) 8, ListFull) ∷ [])) is
 
+  pub add_full : first_no shared ≡ None → listed (combination_of jv entry) p.list ≡ false → ltb (length p.list) 8 ≡ false → first_no (add_questions p jv entry) ≡ Some ListFull
+  add_full none is full =
+      first_no_next shared add_more none ∙ (λ i. first_no ((not (is i), AlreadyListed) ∷ (full i, ListFull) ∷ []))
+
+  pub add_accepted : first_no shared ≡ None → listed (combination_of jv entry) p.list ≡ false → ltb (length p.list) 8 ≡ true → first_no (add_questions p jv entry) ≡ None
+  add_accepted none is few =
+      first_no_next shared add_more none ∙ (λ i. first_no ((not (is i), AlreadyListed) ∷ (few i, ListFull) ∷ []))
+
+  pub drop_unlisted : first_no shared ≡ None → listed (combination_of jv entry) p.list ≡ false → first_no (drop_questions p jv entry) ≡ Some NotListed
+  drop_unlisted none is =
+      first_no_next shared drop_more none ∙ (λ i. first_no ((is i && not (same (combination_of jv entry) original), NotListed) ∷ []))
+
+  pub drop_original : first_no shared ≡ None → listed (combination_of jv entry) p.list ≡ true → same (combination_of jv entry) original ≡ true → first_no (drop_questions p jv entry) ≡ Some NotListed
+  drop_original none is one =
+      first_no_next shared drop_more none ∙ (λ i. first_no ((is i && not (one i), NotListed) ∷ []))
+
   pub drop_accepted : first_no shared ≡ None → listed (combination_of jv entry) p.list ≡ true → same (combination_of jv entry) original ≡ false → first_no (drop_questions p jv entry) ≡ None
   drop_accepted none is other =
       first_no_next shared drop_more none ∙ (λ i. first_no ((is i && not (other i), NotListed) ∷ []))
@@ -79,6 +84,10 @@ combination_in_range p jv entry none =
     below : (z : ℤ) (n : ℕ) → names_place z n ≡ true → ltb (nat_abs z) n ≡ true
     below (pos a) n e = (and_parts (leb 0 a) (ltb a n) e).1
     below (negsuc a) n e = let z : ◌≡◌ {A = ℕ} 0 1 = cc in absurd (omega arith)
+
+pub added_in_range : (p : Plain) (jv entry : ℤ) → first_no (add_questions p jv entry) ≡ None → (shift_in_range jv && ltb (nat_abs entry) (places_of p)) ≡ true
+added_in_range p jv entry none =
+    combination_in_range p jv entry (or_next_none _ _ (sym (first_no-++ (shared p jv entry) (add_more p jv entry)) ∙ none)).0
 
 -- lists of combinations in range
 pub in_range_push : (n : ℕ) (cs : List Combination) (c : Combination) → all_in_range n cs ≡ true → (shift_in_range c.jv && ltb c.entry n) ≡ true → all_in_range n (cs ++ c ∷ []) ≡ true

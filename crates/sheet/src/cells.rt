@@ -3,10 +3,10 @@ ghost use Rattle.std.specs.Prelude.{◌≡◌};
 ghost use Rattle.rules.specs.Cells.{cell_lawful, wrong_cell};
 
 /// The number of different cells: two for each of the 24 keys.
-const CELLS: u8 = 48;
+pub const CELLS: u8 = 48;
 
-// May a cell stand behind the one before it, if any?
-fn is_lawful(before: Option<u8>, cell: u8) -> bool
+/// Whether a cell may stand behind another, or first where there is none.
+pub fn is_lawful(before: Option<u8>, cell: u8) -> bool
     ensures { result ≡ cell_lawful before cell }
 {
     let struck = cell % 2 == 0;

@@ -1,127 +1,174 @@
 // Draft sheets, which take load, add, drop, fix and free, and closed sheets, which take the questions.
+// A sheet has all the room that it can ever need from its beginning.
 ghost use Rattle.std.specs.Prelude.{◌≡◌, ◌≤◌, true, length, IfOk};
 ghost use Rattle.theme.specs.Refusals.{first_no, answer};
 ghost use Rattle.theme.specs.Pages.{refusal_of};
-ghost use Rattle.theme.specs.Held.{held};
 ghost use Rattle.rules.specs.Plain.{blank, unless, loaded, add_questions, added, drop_questions, dropped, free_questions, freed, fix_questions, fixed, places_of, all_in_range};
 ghost use Rattle.rules.specs.Courses.{Load, Add, Drop, Fix, Free, Close, Reopen, draft_at, closed_at};
 ghost use Rattle.rules.specs.Faults.{Done, Kept, told_page, told_done, unweighed};
-ghost use Rattle.sheet.specs.Held.{drafted, closed};
 
-use super::content::Content;
-use rules::combination::Combination;
+use rules::combination::{Combination, ORIGINAL};
 use rules::refusal::Refusal;
 use std::alloc::{AllocError, Global};
+use std::marker::Model;
+use theme::place::HIGHEST_KEY;
 use theme::refusal::PageRefusal;
-use theme::theme::Theme;
+use theme::theme::{MOST_PLACES, Theme};
+
+/// The most combinations that a sheet lists.
+pub const MOST_COMBINATIONS: usize = 8;
 
 /// A sheet that may be changed. It answers no question: close it first.
 #[derive(Drop)]
 pub struct Draft {
-    content: Content,
+    pub(crate) theme: Theme,
+    pub(crate) list: Vec<Combination>,
+    // For each place of the theme the key fixed there, if any.
+    pub(crate) fixings: Vec<Option<u8>>,
+}
+
+// Contracts see the plain sheet.
+impl Model for Draft {
+    ghost use Rattle.rules.specs.Plain.{Plain};
+
+    ghost Value = { Plain };
+
+    ghost use Rattle.sheet.specs.Held.{plain_of, Sound};
+
+    ghost view = { plain_of };
+
+    ghost invariant = { Sound };
 }
 
 /// A sheet that answers questions. It takes no change: reopen it first.
 #[derive(Drop)]
 pub struct Closed {
-    content: Content,
+    draft: Draft,
+}
+
+impl Model for Closed {
+    ghost use Rattle.rules.specs.Plain.{Plain};
+
+    ghost Value = { Plain };
+
+    ghost view = { λ c. c.draft };
 }
 
 impl Draft {
     /// A sheet with no theme, list or fixing; only this call can fail for want of memory.
     pub fn blank(heap: Global) -> Result<Draft, AllocError>
-        ensures { IfOk result (λ d. drafted d ≡ blank) }
+        ensures { IfOk result (λ d. d ≡ blank) }
     {
-        let content = Content::blank(heap)?;
-        Ok(Draft { content })
+        let theme = Theme::blank(heap)?;
+        let list = Vec::with_capacity(heap, MOST_COMBINATIONS)?;
+        let fixings = Vec::with_capacity(heap, MOST_PLACES)?;
+        Ok(Draft {
+            theme,
+            list,
+            fixings,
+        })
     }
 
     /// Takes the theme of a page, lists the original combination alone and frees every place.
     pub fn load(&mut self, page: &[u8]) -> Result<(), PageRefusal>
         ensures answer { result ≡ answer tt (refusal_of page.now) }
-        ensures held { drafted self.new ≡ unless (refusal_of page.now) (loaded page.now) (drafted self.old) }
-        ensures course { Kept unweighed (draft_at (drafted self.old)) (Load page.now) (told_page result) (draft_at (drafted self.new)) }
+        ensures held { self.new ≡ unless (refusal_of page.now) (loaded page.now) self.old }
+        ensures course { Kept unweighed (draft_at self.old) (Load page.now) (told_page result) (draft_at self.new) }
     {
-        self.content.load(page)
+        self.theme.read(page)?;
+        self.list.clear();
+        self.list.push_reserved(ORIGINAL);
+        self.fixings.clear();
+        self.fixings.resize(self.theme.len(), None).unwrap();
+        Ok(())
     }
 
     /// Lists one combination more.
     pub fn add(&mut self, jv: i32, entry: i32) -> Result<(), Refusal>
-        ensures answer { result ≡ answer tt (first_no (add_questions (drafted self.old) jv entry)) }
-        ensures held { drafted self.new ≡ unless (first_no (add_questions (drafted self.old) jv entry)) (added (drafted self.old) jv entry) (drafted self.old) }
-        ensures course { Kept unweighed (draft_at (drafted self.old)) (Add jv entry) (told_done result) (draft_at (drafted self.new)) }
+        ensures answer { result ≡ answer tt (first_no (add_questions self.old jv entry)) }
+        ensures held { self.new ≡ unless (first_no (add_questions self.old jv entry)) (added self.old jv entry) self.old }
+        ensures course { Kept unweighed (draft_at self.old) (Add jv entry) (told_done result) (draft_at self.new) }
     {
-        self.content.add(jv, entry)
+        let combination = self.to_be_added(jv, entry)?;
+        self.list.push_reserved(combination);
+        Ok(())
     }
 
     /// Takes a combination off the list; the original stays.
     pub fn drop(&mut self, jv: i32, entry: i32) -> Result<(), Refusal>
-        ensures answer { result ≡ answer tt (first_no (drop_questions (drafted self.old) jv entry)) }
-        ensures held { drafted self.new ≡ unless (first_no (drop_questions (drafted self.old) jv entry)) (dropped (drafted self.old) jv entry) (drafted self.old) }
-        ensures course { Kept unweighed (draft_at (drafted self.old)) (Drop jv entry) (told_done result) (draft_at (drafted self.new)) }
+        ensures answer { result ≡ answer tt (first_no (drop_questions self.old jv entry)) }
+        ensures held { self.new ≡ unless (first_no (drop_questions self.old jv entry)) (dropped self.old jv entry) self.old }
+        ensures course { Kept unweighed (draft_at self.old) (Drop jv entry) (told_done result) (draft_at self.new) }
     {
-        self.content.drop_combination(jv, entry)
+        let number = self.to_be_dropped(jv, entry)?;
+        let _ = self.list.remove(number);
+        Ok(())
     }
 
     /// Fixes a key at a place, in the place of the one fixed there if any.
     pub fn fix(&mut self, place: usize, key: u8) -> Result<(), Refusal>
-        ensures answer { result ≡ answer tt (first_no (fix_questions (drafted self.old) place key)) }
-        ensures held { drafted self.new ≡ unless (first_no (fix_questions (drafted self.old) place key)) (fixed (drafted self.old) place key) (drafted self.old) }
-        ensures course { Kept unweighed (draft_at (drafted self.old)) (Fix place key) (told_done result) (draft_at (drafted self.new)) }
+        ensures answer { result ≡ answer tt (first_no (fix_questions self.old place key)) }
+        ensures held { self.new ≡ unless (first_no (fix_questions self.old place key)) (fixed self.old place key) self.old }
+        ensures course { Kept unweighed (draft_at self.old) (Fix place key) (told_done result) (draft_at self.new) }
     {
-        self.content.fix(place, key)
+        self.check_place(place)?;
+        if key > HIGHEST_KEY {
+            return Err(Refusal::KeyOutOfRange);
+        }
+        self.fixings[place] = Some(key);
+        Ok(())
     }
 
     /// Frees a place, which may be free already.
     pub fn free(&mut self, place: usize) -> Result<(), Refusal>
-        ensures answer { result ≡ answer tt (first_no (free_questions (drafted self.old) place)) }
-        ensures held { drafted self.new ≡ unless (first_no (free_questions (drafted self.old) place)) (freed (drafted self.old) place) (drafted self.old) }
-        ensures course { Kept unweighed (draft_at (drafted self.old)) (Free place) (told_done result) (draft_at (drafted self.new)) }
+        ensures answer { result ≡ answer tt (first_no (free_questions self.old place)) }
+        ensures held { self.new ≡ unless (first_no (free_questions self.old place)) (freed self.old place) self.old }
+        ensures course { Kept unweighed (draft_at self.old) (Free place) (told_done result) (draft_at self.new) }
     {
-        self.content.free(place)
+        self.check_place(place)?;
+        self.fixings[place] = None;
+        Ok(())
     }
 
     /// Turns the draft into a closed sheet.
     pub fn close(self) -> Closed
-        ensures held { closed result ≡ drafted self }
-        ensures course { Kept unweighed (draft_at (drafted self)) Close Done (closed_at (closed result)) }
+        ensures held { result ≡ self }
+        ensures course { Kept unweighed (draft_at self) Close Done (closed_at result) }
     {
-        let Draft { content } = self;
-        Closed { content }
+        Closed { draft: self }
     }
 }
 
 impl Closed {
     /// Turns the sheet into a draft again.
     pub fn reopen(self) -> Draft
-        ensures held { drafted result ≡ closed self }
-        ensures course { Kept unweighed (closed_at (closed self)) Reopen Done (draft_at (drafted result)) }
+        ensures held { result ≡ self }
+        ensures course { Kept unweighed (closed_at self) Reopen Done (draft_at result) }
     {
-        let Closed { content } = self;
-        Draft { content }
+        self.draft
     }
 
     /// The theme, blank where none is loaded.
     pub fn theme(&self) -> &Theme
-        ensures { held result.now ≡ (closed self.now).theme }
+        ensures { result.now ≡ self.now.theme }
     {
-        &self.content.theme
+        &self.draft.theme
     }
 
     /// The combinations listed, in the order of adding.
     pub fn combinations(&self) -> &[Combination]
-        ensures value { result.now ≡ (closed self.now).list }
-        ensures in_range { all_in_range (places_of (closed self.now)) result.now ≡ true }
+        ensures value { result.now ≡ self.now.list }
+        ensures in_range { all_in_range (places_of self.now) result.now ≡ true }
         ensures few { length result.now ≤ 8 }
     {
-        &self.content.list
+        &self.draft.list
     }
 
     /// For each place the key fixed there, if any.
     pub fn fixings(&self) -> &[Option<u8>]
-        ensures value { result.now ≡ (closed self.now).fixings }
-        ensures len { length result.now ≡ places_of (closed self.now) }
+        ensures value { result.now ≡ self.now.fixings }
+        ensures len { length result.now ≡ places_of self.now }
     {
-        &self.content.fixings
+        &self.draft.fixings
     }
 }

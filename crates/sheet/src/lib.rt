@@ -2,8 +2,6 @@
 // And the cells that make a line. Knows nothing of books or compasses.
 #![tactic(auto)]
 
+mod asked;
 pub mod cells;
-mod changes;
-mod content;
 pub mod draft;
-mod holding;

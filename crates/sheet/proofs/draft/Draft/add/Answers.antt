@@ -1,17 +1,34 @@
-use Rattle.std.proofs.Common.{◌∙◌}
+use Rattle.std.proofs.Common.{◌≡◌, ◌<◌, ◌&&◌, ltb, length, None, Ok, ap, ◌∙◌, arith, rules}
 use Rattle.std.proofs.lemmas.Int.{to_z-of_z}
-use Rattle.theme.specs.Refusals.{first_no, answer}
-use Rattle.rules.specs.Plain.{unless, added, add_questions}
+use Rattle.counterpoint.specs.Interval.{shift_in_range}
+use Rattle.theme.specs.Refusals.{first_no}
+use Rattle.rules.specs.Plain.{Plain, add_questions, combination_of, all_in_range, places_of}
 use Rattle.rules.specs.Faults.{unweighed}
 use Rattle.rules.proofs.Faultless.{add_kept}
-use Rattle.sheet.specs.Held.{contents}
+use Rattle.sheet.specs.Held.{plain_of}
+use Rattle.sheet.proofs.Refused.{in_range_push, added_in_range}
 use Rattle.sheet.proofs.draft.Draft.add.Goals as goal
 
-pub returns : goal.returns
-returns c =
-    let sheet = contents c.args.self.now.content in
-    let jv-is = to_z-of_z _ c.args.jv c.ranges.jv in
-    let entry-is = to_z-of_z _ c.args.entry c.ranges.entry in
-    let answered = c.add.ensures.answer ∙ (λ i. answer tt (first_no (add_questions sheet (jv-is i) (entry-is i)))) in
-    let holds = c.add.ensures.held ∙ (λ i. unless (first_no (add_questions sheet (jv-is i) (entry-is i))) (added sheet (jv-is i) (entry-is i)) sheet) in
-    record { answer = answered; held = holds; course = add_kept unweighed sheet c.args.jv c.args.entry _ _ answered holds }
+pub returns-in_err-combination-clause-course : goal.returns-in_err-combination-clause-course
+returns-in_err-combination-clause-course c = add_kept unweighed c.args.self.now c.args.jv c.args.entry _ _ (search rules) (search rules)
+
+pub invariant_of-self : goal.invariant_of-self
+invariant_of-self c =
+    let sheet = c.args.self.now in
+    let known : (first_no (add_questions sheet c.args.jv c.args.entry) ≡ None) × (c.in_ok-combination.combination ≡ combination_of c.args.jv c.args.entry) × (length sheet.list < 8) =
+    simp (to_z-of_z, c.ranges.jv, c.ranges.entry) at c.in_ok-combination.ensures in
+    let p = c.push_reserved.ensures in
+    let same = c.self.view_is in
+    record {
+      list_room = omega (arith, p.capacity, c.self.invariant.list_room);
+      fixing_room = c.self.invariant.fixing_room;
+      few = omega (arith, p.len, known.2, ap (λ (q : Plain). length q.list) same);
+      level = c.self.invariant.level;
+      in_range =
+          ap (all_in_range (places_of (plain_of c.self.inside))) p.items
+          ∙ in_range_push (places_of (plain_of c.self.inside)) (plain_of c.self.inside).list c.in_ok-combination.combination c.self.invariant.in_range
+          ((λ i. shift_in_range (known.1 i).jv && ltb (known.1 i).entry (places_of (same i))) ∙ added_in_range sheet c.args.jv c.args.entry known.0);
+    }
+
+pub returns-clause-course : goal.returns-clause-course
+returns-clause-course c = add_kept unweighed c.args.self.now c.args.jv c.args.entry _ (Ok tt) (search rules) (search rules)

@@ -1,17 +1,36 @@
-use Rattle.std.proofs.Common.{◌∙◌}
+use Rattle.std.proofs.Common.{◌≡◌, ◌<◌, length, vec_items, None, Ok, sym, ◌∙◌, arith, rules}
+use Rattle.std.specs.List.{remove}
 use Rattle.std.proofs.lemmas.Int.{to_z-of_z}
-use Rattle.theme.specs.Refusals.{first_no, answer}
-use Rattle.rules.specs.Plain.{unless, dropped, drop_questions}
+use Rattle.theme.specs.Refusals.{first_no}
+use Rattle.rules.specs.Plain.{drop_questions, combination_of, without, all_in_range, places_of}
 use Rattle.rules.specs.Faults.{unweighed}
 use Rattle.rules.proofs.Faultless.{drop_kept}
-use Rattle.sheet.specs.Held.{contents}
+use Rattle.sheet.proofs.Refused.{in_range_without}
 use Rattle.sheet.proofs.draft.Draft.drop.Goals as goal
 
-pub returns : goal.returns
-returns c =
-    let sheet = contents c.args.self.now.content in
-    let jv-is = to_z-of_z _ c.args.jv c.ranges.jv in
-    let entry-is = to_z-of_z _ c.args.entry c.ranges.entry in
-    let answered = c.drop_combination.ensures.answer ∙ (λ i. answer tt (first_no (drop_questions sheet (jv-is i) (entry-is i)))) in
-    let holds = c.drop_combination.ensures.held ∙ (λ i. unless (first_no (drop_questions sheet (jv-is i) (entry-is i))) (dropped sheet (jv-is i) (entry-is i)) sheet) in
-    record { answer = answered; held = holds; course = drop_kept unweighed sheet c.args.jv c.args.entry _ _ answered holds }
+pub returns-in_err-number-clause-course : goal.returns-in_err-number-clause-course
+returns-in_err-number-clause-course c = drop_kept unweighed c.args.self.now c.args.jv c.args.entry _ _ (search rules) (search rules)
+
+pub invariant_of-self : goal.invariant_of-self
+invariant_of-self c =
+    let sheet = c.args.self.now in
+    let named = combination_of c.args.jv c.args.entry in
+    let known : (first_no (drop_questions sheet c.args.jv c.args.entry) ≡ None) × (c.in_ok-number.number < length sheet.list) × (remove sheet.list c.in_ok-number.number ≡ without named sheet.list) =
+    simp (to_z-of_z, c.ranges.jv, c.ranges.entry) at c.in_ok-number.ensures in
+    let p = c.remove.ensures in
+    let same = c.self.view_is in
+    let left : vec_items c.remove.new.self ≡ without named sheet.list =
+    p.items ∙ (λ i. remove (same i).list c.in_ok-number.number) ∙ known.2 in
+    record {
+      list_room = omega (arith, p.capacity, c.self.invariant.list_room);
+      fixing_room = c.self.invariant.fixing_room;
+      few = omega (arith, p.len, c.self.invariant.few);
+      level = c.self.invariant.level;
+      in_range =
+          (λ i. all_in_range (places_of (same i)) (left i))
+          ∙ in_range_without (places_of sheet) named sheet.list
+          (sym (λ i. all_in_range (places_of (same i)) (same i).list) ∙ c.self.invariant.in_range);
+    }
+
+pub returns-clause-course : goal.returns-clause-course
+returns-clause-course c = drop_kept unweighed c.args.self.now c.args.jv c.args.entry _ (Ok tt) (search rules) (search rules)
