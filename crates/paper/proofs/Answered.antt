@@ -1,59 +1,14 @@
 -- What a writing answers and leaves. Assumes nothing.
-use Rattle.std.proofs.Common.{◌≡◌, ℕ, zero, suc, ◌<◌, ◌≤◌, Bool, true, false, cond, ◌&&◌, ltb, leb, List, [], ◌∷◌, length, get_or, is_ok, Some, None, Ok, Err, Option, Result, refl, ap, ◌∙◌, arith}
+use Rattle.std.proofs.Common.{◌≡◌, ℕ, zero, suc, ◌<◌, ◌≤◌, Bool, true, ◌&&◌, ltb, leb, List, [], ◌∷◌, length, get_or, Some, None, ◌∙◌, arith}
 use Rattle.std.proofs.lemmas.Bool.{and_parts, ltb-true, eqb-true, lt-ltb, le-leb}
 use Rattle.counterpoint.specs.Interval.{shift_in_range}
-use Rattle.theme.specs.declared.refusal.WriteRefusal.{WriteRefusal}
-use Rattle.theme.specs.declared.refusal.WriteRefusal.TheVariants as theirs
-use Rattle.theme.specs.Refusals.{first_no, answer}
-use Rattle.theme.specs.Themes.{PlainTheme}
-use Rattle.theme.specs.Pages.{page_of, page_length, write_questions, fronted}
+use Rattle.theme.specs.Refusals.{first_no}
 use Rattle.theme.proofs.Asked.{all_yes, none_from_all_yes, first_no_next, first_no_stops}
 use Rattle.rules.specs.declared.combination.Combination.{Combination}
 use Rattle.rules.specs.declared.refusal.Refusal.{Refusal}
-use Rattle.rules.specs.declared.refusal.Refusal.TheVariants.{NoTheme, NotListed, OutputTooShort}
-use Rattle.rules.specs.Plain.{Plain, unless, places_of, all_in_range}
-use Rattle.paper.specs.Written.{sheet_refusal, page_questions, line_questions, writing_questions, combination_length}
-
--- what a sheet answers where its theme gives this answer
-abbrev pub passed_on : Result ℕ WriteRefusal → Result ℕ Refusal
-passed_on (Ok n) = Ok n
-passed_on (Err e) = Err (sheet_refusal e)
-
--- the same two questions, asked of a theme and of a sheet
-abbrev asked_theme : Bool → Bool → Option WriteRefusal
-asked_theme loaded long = first_no ((loaded, theirs.NoTheme) ∷ (long, theirs.OutputTooShort) ∷ [])
-
-abbrev asked_sheet : Bool → Bool → Option Refusal
-asked_sheet loaded long = first_no ((loaded, NoTheme) ∷ (long, OutputTooShort) ∷ [])
-
-same_answer : (loaded long : Bool) (n : ℕ) → passed_on (answer n (asked_theme loaded long)) ≡ answer n (asked_sheet loaded long)
-same_answer true true n = refl
-same_answer true false n = refl
-same_answer false long n = refl
-
-same_buffer : (loaded long : Bool) (n : ℕ) (after before : List ℕ) → cond (is_ok (answer n (asked_theme loaded long))) after before ≡ unless (asked_sheet loaded long) after before
-same_buffer true true n after before = refl
-same_buffer true false n after before = refl
-same_buffer false long n after before = refl
-
-module _ (p : Plain) (th : PlainTheme) (r : Result ℕ WriteRefusal) (buffer : List ℕ) (same : th ≡ p.theme) (told : r ≡ answer (page_length (length th.places)) (first_no (write_questions th (length buffer)))) where
-  abbrev loaded : Bool
-  loaded = ltb 0 (places_of p)
-
-  abbrev long : Bool
-  long = leb (page_length (places_of p)) (length buffer)
-
-  told_of_sheet : r ≡ answer (page_length (places_of p)) (asked_theme loaded long)
-  told_of_sheet = told ∙ ap (λ (t : PlainTheme). answer (page_length (length t.places)) (first_no (write_questions t (length buffer)))) same
-
-  pub page_answered : passed_on r ≡ answer (page_length (places_of p)) (first_no (page_questions p (length buffer)))
-  page_answered = ap passed_on told_of_sheet ∙ same_answer loaded long (page_length (places_of p))
-
-  pub page_written : (out : List ℕ) → out ≡ cond (is_ok r) (fronted (page_of th) buffer) buffer → out ≡ unless (first_no (page_questions p (length buffer))) (fronted (page_of p.theme) buffer) buffer
-  page_written out is =
-      is
-      ∙ (λ i. cond (is_ok (told_of_sheet i)) (fronted (page_of (same i)) buffer) buffer)
-      ∙ same_buffer loaded long (page_length (places_of p)) (fronted (page_of p.theme) buffer) buffer
+use Rattle.rules.specs.declared.refusal.Refusal.TheVariants.{NotListed, OutputTooShort}
+use Rattle.rules.specs.Plain.{Plain, places_of, all_in_range}
+use Rattle.paper.specs.Written.{line_questions, writing_questions, combination_length}
 
 -- Combinations -----------------------------------------------------------------------------------
 

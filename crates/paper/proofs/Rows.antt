@@ -27,7 +27,7 @@ row_length : (place : ℕ) (raised : ℤ) (key : ℕ) → length (combination_ro
 row_length place raised key = simp length-append (omega (arith, signed_length raised, signed_length (raised -ℤ pos key)))
 
 module _ (places : List Place) (c : Combination) where
-  met_length : (place cell : ℕ) → length (met_row places c place cell) ≡ 17
+  pub met_length : (place cell : ℕ) → length (met_row places c place cell) ≡ 17
   met_length place cell = row_length place (pos (key_of cell) +ℤ c.jv) (theme_key places (place + c.entry))
 
   pub rows_length : (place : ℕ) (cells : List ℕ) → length (combination_rows places c place cells) ≡ 17 * length cells
@@ -45,16 +45,16 @@ module _ (places : List Place) (c : Combination) where
       ∙ sym (append_assoc (met_row places c place x) (combination_rows places c (place + 1) xs) (met_row places c (place + length (x ∷ xs)) cell))
 
   -- one row more
-  pub put_row : (buffer out line bytes : List ℕ) (n : ℕ) → n < length line → combination_length (length line) ≤ length buffer → bytes ≡ met_row places c n (get_or line n 0) → out ≡ take 13 buffer ++ combination_rows places c 0 (take n line) ++ drop (combination_length n) buffer → take (13 + 17 * n) out ++ bytes ++ drop (13 + 17 * n + length bytes) out ≡ take 13 buffer ++ combination_rows places c 0 (take (n + 1) line) ++ drop (combination_length (n + 1)) buffer
-  put_row buffer out line bytes n below room bytes-are is =
+  pub put_row : (buffer out line : List ℕ) (n : ℕ) → n < length line → combination_length (length line) ≤ length buffer → out ≡ take 13 buffer ++ combination_rows places c 0 (take n line) ++ drop (combination_length n) buffer → take (13 + 17 * n) out ++ met_row places c n (get_or line n 0) ++ drop (13 + 17 * n + length (met_row places c n (get_or line n 0))) out ≡ take 13 buffer ++ combination_rows places c 0 (take (n + 1) line) ++ drop (combination_length (n + 1)) buffer
+  put_row buffer out line n below room is =
+      let bytes : List ℕ = met_row places c n (get_or line n 0) in
       let rows : List ℕ = combination_rows places c 0 (take n line) in
       let many : length (take n line) ≡ n = length-take-le n line (omega arith) in
       let long : length (take 13 buffer ++ rows) ≡ 13 + 17 * n =
       length-append (take 13 buffer) rows ∙ (omega (arith, length-take-le 13 buffer (omega arith), rows_length 0 (take n line))) in
-      let far : 13 + 17 * n + length bytes ≡ combination_length (n + 1) = omega (arith, ap length bytes-are, met_length n (get_or line n 0)) in
+      let far : 13 + 17 * n + length bytes ≡ combination_length (n + 1) = omega (arith, met_length n (get_or line n 0)) in
       let more : rows ++ bytes ≡ combination_rows places c 0 (take (n + 1) line) =
-      (λ i. rows ++ bytes-are i)
-      ∙ ap (λ (k : ℕ). rows ++ met_row places c k (get_or line n 0)) (omega (arith, many))
+      ap (λ (k : ℕ). rows ++ met_row places c k (get_or line n 0)) (omega (arith, many))
       ∙ sym (ap (combination_rows places c 0) (take_more line n 0 below) ∙ rows_push 0 (take n line) (get_or line n 0)) in
       put_more (take 13 buffer ++ rows) bytes buffer out (13 + 17 * n) long is
       ∙ ap (λ (xs : List ℕ). xs ++ drop (13 + 17 * n + length bytes) buffer) (append_assoc (take 13 buffer) rows bytes)

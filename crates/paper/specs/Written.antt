@@ -7,13 +7,11 @@ use Rattle.std.specs.Prelude.{ℕ, ◌+◌, ◌*◌, ◌%◌, Bool, not, List, [
 use Rattle.std.specs.List.{slice_get}
 use Rattle.std.specs.Option.{unwrap_or}
 use Rattle.theme.specs.declared.place.Place.{Place}
-use Rattle.theme.specs.declared.refusal.WriteRefusal.{WriteRefusal}
-use Rattle.theme.specs.declared.refusal.WriteRefusal.TheVariants as theirs
 use Rattle.theme.specs.Fields.{columns_of}
 use Rattle.theme.specs.Pages.{page_length}
 use Rattle.rules.specs.declared.combination.Combination.{Combination}
 use Rattle.rules.specs.declared.refusal.Refusal.{Refusal}
-use Rattle.rules.specs.declared.refusal.Refusal.TheVariants.{NoTheme, LineUnfit, NotALine, NotListed, OutputTooShort}
+use Rattle.rules.specs.declared.refusal.Refusal.TheVariants.{LineUnfit, NotALine, NotListed, OutputTooShort}
 use Rattle.rules.specs.Cells.{key_of, wrong_cell}
 use Rattle.rules.specs.Plain.{Plain, places_of, original, theme_question}
 use Rattle.paper.specs.Columns.{signed_columns}
@@ -56,11 +54,6 @@ combination_page p line number =
 -- a written combination of N places has this many bytes
 abbrev pub combination_length : ℕ → ℕ
 combination_length count = 13 + 17 * count
-
--- a theme's refusal to be written, as a refusal of the sheet
-abbrev pub sheet_refusal : WriteRefusal → Refusal
-sheet_refusal theirs.NoTheme = NoTheme
-sheet_refusal theirs.OutputTooShort = OutputTooShort
 
 -- what is asked before the theme's page is written into a buffer of this length, in this order
 abbrev pub page_questions : Plain → ℕ → List (Bool × Refusal)

@@ -1,11 +1,9 @@
-// Writing a combination of a closed sheet's list for a line.
+// Writing a combination of a sheet's list for a line.
 ghost use Rattle.std.specs.Prelude.{◌≡◌, ◌+◌, ◌<◌, ◌≤◌, true, ◌++◌, length, take, drop, negsuc, ◌≤ℤ◌, IfOk};
 ghost use Rattle.counterpoint.specs.Interval.{shift_in_range};
 ghost use Rattle.theme.specs.Refusals.{first_no, answer};
 ghost use Rattle.theme.specs.Pages.{fronted};
-ghost use Rattle.theme.specs.Held.{held};
 ghost use Rattle.rules.specs.Plain.{unless, places_of};
-ghost use Rattle.sheet.specs.Held.{closed};
 ghost use Rattle.paper.specs.Written.{theme_key, combination_head, combination_row, met_row, combination_rows, combination_page, combination_length, line_questions, writing_questions};
 
 use super::columns::signed_columns;
@@ -22,14 +20,6 @@ const HEAD: usize = 13;
 /// The bytes of a row.
 const ROW: usize = 17;
 
-// Puts bytes into a buffer from an index on.
-fn put(out: &mut [u8], at: usize, bytes: &[u8])
-    requires { at + length bytes.now ≤ length out.old }
-    ensures { out.new ≡ take at out.old ++ bytes.now ++ drop (at + length bytes.now) out.old }
-{
-    out[at..at + bytes.len()].copy_from_slice(bytes);
-}
-
 // The head of a combination with this number.
 fn head(number: usize, combination: Combination) -> [u8; 13]
     requires { (number < 8) × (combination.entry < 64) }
@@ -43,13 +33,10 @@ fn head(number: usize, combination: Combination) -> [u8; 13]
 
 // The theme's key at a place, counted round the barrel.
 fn theme_key(theme: &Theme, place: usize) -> u8
-    requires { 0 < length (held theme.now).places }
-    ensures { result ≡ theme_key (held theme.now).places place }
+    requires { 0 < length theme.now.places }
+    ensures { result ≡ theme_key theme.now.places place }
 {
-    match theme.place(place % theme.len()) {
-        Some(met) => met.key,
-        None => 0,
-    }
+    theme.place(place % theme.len()).map_or(0, |met| met.key)
 }
 
 // A row, of a place, the line's key as it is raised and the theme's key.
@@ -66,8 +53,8 @@ fn row(place: usize, raised: i32, key: u8) -> [u8; 17]
 
 // The row of a cell of the line at a place.
 fn met_row(theme: &Theme, combination: Combination, place: usize, cell: u8) -> [u8; 17]
-    requires { (place < 64) × ((0 < length (held theme.now).places) × ((shift_in_range combination.jv ≡ true) × (combination.entry < 64))) }
-    ensures { result ≡ met_row (held theme.now).places combination place cell }
+    requires { (place < 64) × ((0 < length theme.now.places) × ((shift_in_range combination.jv ≡ true) × (combination.entry < 64))) }
+    ensures { result ≡ met_row theme.now.places combination place cell }
 {
     let key = theme_key(theme, place + combination.entry);
     row(place, i32::from(cell / 2) + combination.jv, key)
@@ -75,27 +62,24 @@ fn met_row(theme: &Theme, combination: Combination, place: usize, cell: u8) -> [
 
 // Puts the rows of a line's cells into a buffer, behind a head.
 fn put_rows(out: &mut [u8], theme: &Theme, combination: Combination, line: &[u8])
-    requires { (length line.now ≤ 64) × ((0 < length (held theme.now).places) × ((shift_in_range combination.jv ≡ true) × ((combination.entry < 64) × (combination_length (length line.now) ≤ length out.old)))) }
-    ensures { out.new ≡ take 13 out.old ++ combination_rows (held theme.now).places combination 0 line.now ++ drop (combination_length (length line.now)) out.old }
+    requires { (length line.now ≤ 64) × ((0 < length theme.now.places) × ((shift_in_range combination.jv ≡ true) × ((combination.entry < 64) × (combination_length (length line.now) ≤ length out.old)))) }
+    ensures { out.new ≡ take 13 out.old ++ combination_rows theme.now.places combination 0 line.now ++ drop (combination_length (length line.now)) out.old }
 {
     for (place, cell) in line.iter().enumerate() {
-        put(
-            out,
-            HEAD + ROW * place,
-            &met_row(theme, combination, place, *cell),
-        );
+        let at = HEAD + ROW * place;
+        out[at..at + ROW].copy_from_slice(&met_row(theme, combination, place, *cell));
     }
 }
 
 // Sees that the sheet has a theme, and that a line is one for its places.
 fn check_line(sheet: &Closed, line: &[u8]) -> Result<(), Refusal>
-    ensures { result ≡ answer tt (first_no (line_questions (closed sheet.now) line.now)) }
+    ensures { result ≡ answer tt (first_no (line_questions sheet.now line.now)) }
 {
-    let places = sheet.theme().len();
-    if places == 0 {
+    let theme = sheet.theme();
+    if theme.is_empty() {
         return Err(Refusal::NoTheme);
     }
-    if line.len() != places {
+    if line.len() != theme.len() {
         return Err(Refusal::LineUnfit);
     }
     match wrong_cell(line) {
@@ -112,9 +96,9 @@ pub fn write_combination(
     number: usize,
     out: &mut [u8],
 ) -> Result<usize, Refusal>
-    ensures answer { result ≡ answer (combination_length (places_of (closed sheet.now))) (first_no (writing_questions (closed sheet.now) line.now number (length out.old))) }
-    ensures written { out.new ≡ unless (first_no (writing_questions (closed sheet.now) line.now number (length out.old))) (fronted (combination_page (closed sheet.now) line.now number) out.old) out.old }
-    ensures long { IfOk result (λ n. n ≡ length (combination_page (closed sheet.now) line.now number)) }
+    ensures answer { result ≡ answer (combination_length (places_of sheet.now)) (first_no (writing_questions sheet.now line.now number (length out.old))) }
+    ensures written { out.new ≡ unless (first_no (writing_questions sheet.now line.now number (length out.old))) (fronted (combination_page sheet.now line.now number) out.old) out.old }
+    ensures long { IfOk result (λ n. n ≡ length (combination_page sheet.now line.now number)) }
     ensures within { IfOk result (λ n. n ≤ length out.old) }
 {
     check_line(sheet, line)?;
@@ -128,7 +112,7 @@ pub fn write_combination(
         return Err(Refusal::OutputTooShort);
     }
     let combination = list[number];
-    put(out, 0, &head(number, combination));
+    out[0..HEAD].copy_from_slice(&head(number, combination));
     put_rows(out, theme, combination, line);
     Ok(length)
 }

@@ -23,10 +23,7 @@ mod tests {
 
     // The number of a refusal, if there is one.
     fn number<T: Drop>(answer: Result<T, Refusal>) -> Option<u32> {
-        match answer {
-            Ok(_) => None,
-            Err(refusal) => Some(refusal.number()),
-        }
+        answer.err().map(u32::from)
     }
 
     // The place that the refusal of a line names.
@@ -39,18 +36,13 @@ mod tests {
 
     // The combination with this number, if it is listed.
     fn listed(sheet: &Closed, number: usize) -> Option<(i32, usize)> {
-        match sheet.combinations().get(number) {
-            Some(combination) => Some((combination.jv, combination.entry)),
-            None => None,
-        }
+        let combination = sheet.combinations().get(number)?;
+        Some((combination.jv, combination.entry))
     }
 
     // The key fixed at a place, if there is one.
     fn fixed(sheet: &Closed, place: usize) -> Option<u8> {
-        match sheet.fixings().get(place) {
-            Some(key) => *key,
-            None => None,
-        }
+        *sheet.fixings().get(place)?
     }
 
     #[test]

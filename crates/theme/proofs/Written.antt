@@ -13,11 +13,11 @@ rows_of_push place (q ∷ qs) p =
     ap (λ (xs : List ℕ). row_of place q ++ xs)
     (rows_of_push (place + 1) qs p ∙ ap (λ (n : ℕ). rows_of (place + 1) qs ++ row_of n p) (omega arith))
 
--- what a buffer holds once bytes are copied into its middle
-pub put_is : (n : ℕ) (buffer bytes copied : List ℕ) → copied ≡ bytes → put_mid n (n + length bytes - n) buffer copied ≡ take n buffer ++ bytes ++ drop (n + length bytes) buffer
-put_is n buffer bytes copied is =
-    let k : n + length bytes - n ≡ length bytes = omega arith in
-    (λ i. take n buffer ++ (is i ++ drop (k i) (drop n buffer)))
+-- what a buffer holds once so many bytes are copied into its middle
+pub put_is : (n k : ℕ) (buffer bytes copied : List ℕ) → copied ≡ bytes → length bytes ≡ k → put_mid n (n + k - n) buffer copied ≡ take n buffer ++ bytes ++ drop (n + length bytes) buffer
+put_is n k buffer bytes copied is long =
+    let many : n + k - n ≡ length bytes = omega arith in
+    (λ i. take n buffer ++ (is i ++ drop (many i) (drop n buffer)))
     ∙ (λ i. take n buffer ++ (bytes ++ drop-drop (length bytes) n buffer i))
     ∙ sym (append_assoc (take n buffer) bytes (drop (n + length bytes) buffer))
 

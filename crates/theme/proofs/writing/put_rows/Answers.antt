@@ -1,4 +1,4 @@
-use Rattle.std.proofs.Common.{◌≡◌, ℕ, ◌+◌, ◌*◌, List, ◌++◌, length, take, drop, ◌∙◌, arith}
+use Rattle.std.proofs.Common.{◌≡◌, ℕ, ◌+◌, ◌*◌, List, ◌++◌, length, take, drop, refl, ◌∙◌, arith}
 use Rattle.std.proofs.lemmas.List.{take_more, take_all}
 use Rattle.theme.specs.declared.place.Mark.TheVariants.{Pin}
 use Rattle.theme.specs.Pages.{rows_of, page_length}
@@ -10,7 +10,7 @@ loop-number-preserved c =
     let n : ℕ = c.loop-number.number in
     let out : List ℕ = c.loop-number.out in
     let more = take_more c.args.places.now n (record { key = 0; mark = Pin }) c.loop-number-test.true in
-    put_is (9 + 11 * n) out _ _ (c.copy_from_slice.ensures.after ∙ c.row.ensures)
+    put_is (9 + 11 * n) 11 out _ _ (c.copy_from_slice.ensures.after ∙ c.row.ensures) refl
     ∙ put_row c.args.out.now out c.args.places.now n _ c.loop-number-test.true c.requires.1 more c.loop-number.invariant
 
 pub returns : goal.returns
