@@ -1,10 +1,8 @@
 // How a line meets the theme in a combination: the moments and successions that a book is asked.
 // Knows nothing of compasses or books.
 ghost use Rattle.std.specs.Prelude.{◌≡◌, ◌+◌, ◌<◌, ◌≤◌, true, length, pos, ◌+ℤ◌, ◌-ℤ◌, neg_ℤ, ◌≤ℤ◌};
-ghost use Rattle.theme.specs.Held.{held};
 ghost use Rattle.counterpoint.specs.Interval.{shift_in_range};
 ghost use Rattle.rules.specs.Cells.{key_of};
-ghost use Rattle.sheet.specs.Held.{closed};
 ghost use Rattle.rules.specs.Plain.{places_of};
 ghost use Rattle.rules.specs.Meeting.{theme_at, voice_of_mark, voice_of_cell, accent_at, met, moment_of, succession_of};
 
@@ -22,7 +20,7 @@ const NO_PLACE: Place = Place {
 
 // The theme's place with this number.
 fn place_at(theme: &Theme, number: usize) -> Place
-    ensures { result ≡ theme_at (held theme.now) number }
+    ensures { result ≡ theme_at theme.now number }
 {
     theme.place(number).unwrap_or(NO_PLACE)
 }
@@ -50,8 +48,8 @@ fn voice_of_cell(cell: u8) -> Voice
 
 // How a place of the theme is accented.
 fn accent_at(theme: &Theme, number: usize) -> Accent
-    requires { 0 < length (held theme.now).places }
-    ensures { result ≡ accent_at (held theme.now) number }
+    requires { 0 < length theme.now.places }
+    ensures { result ≡ accent_at theme.now number }
 {
     if number % theme.bar() == 0 {
         Accent::Strong
@@ -77,13 +75,23 @@ fn interval(cell: u8, key: u8, jv: i32) -> i32
     step(key, cell / 2) + jv
 }
 
+// The theme's place that a place of the line meets, counted round the barrel.
+fn met(sheet: &Closed, combination: Combination, place: usize) -> usize
+    requires { (0 < places_of sheet.now) × ((place ≤ places_of sheet.now) × (combination.entry < places_of sheet.now)) }
+    ensures value { result ≡ met sheet.now combination place }
+    ensures few { places_of sheet.now ≤ 64 }
+{
+    let places = sheet.theme().len();
+    (place + combination.entry) % places
+}
+
 // The moment of a cell at a place of the line.
 pub(crate) fn moment(sheet: &Closed, combination: Combination, place: usize, cell: u8) -> Moment
-    requires { (place < places_of (closed sheet.now)) × ((combination.entry < places_of (closed sheet.now)) × (shift_in_range combination.jv ≡ true)) }
-    ensures { result ≡ moment_of (closed sheet.now) combination place cell }
+    requires { (place < places_of sheet.now) × ((combination.entry < places_of sheet.now) × (shift_in_range combination.jv ≡ true)) }
+    ensures { result ≡ moment_of sheet.now combination place cell }
 {
     let theme = sheet.theme();
-    let met = (place + combination.entry) % theme.len();
+    let met = met(sheet, combination, place);
     let sounding = place_at(theme, met);
     Moment {
         interval: interval(cell, sounding.key, combination.jv),
@@ -101,12 +109,12 @@ pub(crate) fn succession(
     cell: u8,
     next: u8,
 ) -> Succession
-    requires { (place < places_of (closed sheet.now)) × ((combination.entry < places_of (closed sheet.now)) × (shift_in_range combination.jv ≡ true)) }
-    ensures { result ≡ succession_of (closed sheet.now) combination place cell next }
+    requires { (place < places_of sheet.now) × ((combination.entry < places_of sheet.now) × (shift_in_range combination.jv ≡ true)) }
+    ensures { result ≡ succession_of sheet.now combination place cell next }
 {
     let theme = sheet.theme();
-    let left = place_at(theme, (place + combination.entry) % theme.len());
-    let met = (place + 1 + combination.entry) % theme.len();
+    let left = place_at(theme, met(sheet, combination, place));
+    let met = met(sheet, combination, place + 1);
     let entered = place_at(theme, met);
     Succession {
         first: moment(sheet, combination, place, cell),

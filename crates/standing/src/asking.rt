@@ -1,42 +1,45 @@
-// A question as a passage: which cell may follow which, asked of a sheet, a compass and a book.
+// What a question is asked of, and which cell may follow which as far as it goes.
 // Knows nothing of measures.
-ghost use Rattle.std.specs.Prelude.{◌≡◌, ◌+◌, ◌<◌, ◌≤◌, true, cond, ◌&&◌, length, Some, None};
+ghost use Rattle.std.specs.Prelude.{◌≡◌, ◌<◌, ◌≤◌, true, Some, None, MatchResult};
 ghost use Rattle.counterpoint.specs.Interval.{shift_in_range};
+ghost use Rattle.theme.specs.Refusals.{first_no};
 ghost use Rattle.engine.specs.Lines.{every};
-ghost use Rattle.rules.specs.Cells.{key_of, cell_lawful};
-ghost use Rattle.sheet.specs.Held.{closed};
 ghost use Rattle.rules.specs.Plain.{places_of};
-ghost use Rattle.standing.specs.Asking.{asking};
-ghost use Rattle.standing.specs.Held.{plain_compass};
+ghost use Rattle.rules.specs.Questions.{base_questions, tried_below};
 ghost use Rattle.rules.specs.Standing.{agrees, keeps, kept_at, tried_at, way};
+ghost use Rattle.standing.specs.Asking.{asked_by};
 
 use super::compass::Compass;
 use super::meeting::{moment, succession};
 use counterpoint::book::Book;
 use engine::passage::Passage;
+use engine::verdicts::CELLS;
 use rules::combination::Combination;
+use rules::refusal::Refusal;
 use rules::trial::Trial;
+use sheet::cells::is_lawful;
 use sheet::draft::Closed;
 
-/// How many cells there are: two for each of 24 keys.
-const CELLS: u8 = 48;
-
-/// What a question is asked of.
+/// A closed sheet, a book and a compass: what every question is asked of.
 #[derive(Drop)]
-pub struct Passing<'a, B> {
+pub struct Asking<'a, B> {
     pub sheet: &'a Closed,
     pub book: &'a B,
     pub compass: &'a Compass,
+}
+
+// Whether a tried place is one of so many.
+fn is_tried_below(trial: Option<Trial>, places: usize) -> bool
+    ensures { result ≡ tried_below trial places }
+{
+    trial.is_none_or(|trial| trial.place < places)
 }
 
 // Whether a key is the one asked for, if one is.
 fn keeps_key(wanted: Option<u8>, key: u8) -> bool
     ensures { result ≡ keeps wanted key }
 {
-    match wanted {
-        None => true,
-        Some(wanted) => wanted == key,
-    }
+    wanted.is_none_or(|wanted| wanted == key)
 }
 
 // The key tried at a place, if one is.
@@ -49,22 +52,26 @@ fn tried_key(trial: Option<Trial>, place: usize) -> Option<u8>
     }
 }
 
-// Whether a cell may stand behind another, or first where there is none.
-fn may_stand(before: Option<u8>, cell: u8) -> bool
-    ensures { result ≡ cell_lawful before cell }
-{
-    let held = cell % 2 == 1;
-    match before {
-        None => cell < CELLS && !held,
-        Some(before) => cell < CELLS && (!held || before / 2 == cell / 2),
+impl<B: Book> Asking<'_, B> {
+    /// Sees that a theme is loaded and a tried place is one of its places, and gives the number of places.
+    pub fn check_trial(&self) -> Result<usize, Refusal>
+        ensures { MatchResult result (λ n. (first_no (base_questions self.now.sheet.now self.now.compass.now) ≡ None) × (n ≡ places_of self.now.sheet.now) × (0 < n) × (n ≤ 64)) (λ e. first_no (base_questions self.now.sheet.now self.now.compass.now) ≡ Some e) }
+    {
+        let theme = self.sheet.theme();
+        if theme.is_empty() {
+            return Err(Refusal::NoTheme);
+        }
+        let places = theme.len();
+        if !is_tried_below(self.compass.trial(), places) {
+            return Err(Refusal::TrialBeyondTheme);
+        }
+        Ok(places)
     }
-}
 
-impl<B: Book> Passing<'_, B> {
     // Whether a cell keeps the compass, the trial and the key fixed at its place.
     pub(crate) fn keeps_all(&self, place: usize, cell: u8) -> bool
-        requires { place < places_of (closed self.now.sheet.now) }
-        ensures { result ≡ kept_at (asking self.now.sheet.now self.now.compass.now (B.admits self.now.book.now) (B.allows self.now.book.now)) place cell }
+        requires { place < places_of self.now.sheet.now }
+        ensures { result ≡ kept_at (asked_by B.admits B.allows self.now) place cell }
     {
         let key = cell / 2;
         let fixed = self.sheet.fixings()[place];
@@ -81,8 +88,8 @@ impl<B: Book> Passing<'_, B> {
         cell: u8,
         next: u8,
     ) -> bool
-        requires { (place < places_of (closed self.now.sheet.now)) × ((combination.entry < places_of (closed self.now.sheet.now)) × (shift_in_range combination.jv ≡ true)) }
-        ensures { result ≡ agrees (asking self.now.sheet.now self.now.compass.now (B.admits self.now.book.now) (B.allows self.now.book.now)) place cell next combination }
+        requires { (place < places_of self.now.sheet.now) × ((combination.entry < places_of self.now.sheet.now) × (shift_in_range combination.jv ≡ true)) }
+        ensures { result ≡ agrees (asked_by B.admits B.allows self.now) place cell next combination }
     {
         self.book
             .admits(moment(self.sheet, combination, place, cell))
@@ -93,8 +100,8 @@ impl<B: Book> Passing<'_, B> {
 
     // Whether the book says yes in each listed combination.
     fn agrees_in_all(&self, place: usize, cell: u8, next: u8) -> bool
-        requires { place < places_of (closed self.now.sheet.now) }
-        ensures { result ≡ every (agrees (asking self.now.sheet.now self.now.compass.now (B.admits self.now.book.now) (B.allows self.now.book.now)) place cell next) (closed self.now.sheet.now).list }
+        requires { place < places_of self.now.sheet.now }
+        ensures { result ≡ every (agrees (asked_by B.admits B.allows self.now) place cell next) self.now.sheet.now.list }
     {
         let combinations = self.sheet.combinations();
         for combination in combinations {
@@ -106,18 +113,18 @@ impl<B: Book> Passing<'_, B> {
     }
 }
 
-impl<B: Book> Passage for Passing<'_, B> {
-    ghost way = { λ s. way (asking s.sheet.now s.compass.now (B.admits s.book.now) (B.allows s.book.now)) };
+impl<B: Book> Passage for Asking<'_, B> {
+    ghost way = { λ asking. way (asked_by B.admits B.allows asking) };
 
     fn may(&self, place: usize, cell: usize, next: usize) -> bool {
         let places = self.sheet.theme().len();
-        if place >= places || cell >= 48 || next >= 48 {
+        if place >= places || cell >= CELLS || next >= CELLS {
             return false;
         }
         let cell = cell as u8;
         let next = next as u8;
         let before = if place + 1 < places { Some(cell) } else { None };
-        may_stand(before, next)
+        is_lawful(before, next)
             && self.keeps_all(place, cell)
             && self.agrees_in_all(place, cell, next)
     }

@@ -1,6 +1,6 @@
 use Rattle.std.proofs.Common.{sym, ◌∙◌}
 use Rattle.standing.proofs.Agreeing.{next_in_range, walked_no, walked_more, walked_all}
-use Rattle.standing.proofs.passing.Passing.agrees_in_all.Goals as goal
+use Rattle.standing.proofs.asking.Asking.agrees_in_all.Goals as goal
 
 pub agrees_in-requires : goal.agrees_in-requires
 agrees_in-requires g c =

@@ -1,6 +1,6 @@
 use Rattle.standing.proofs.Agreeing.{next_in_range}
 use Rattle.standing.proofs.Looking.{refused_here, undenied_more, undenied_all}
-use Rattle.standing.proofs.passing.Passing.check_agreed.Goals as goal
+use Rattle.standing.proofs.asking.Asking.check_agreed.Goals as goal
 
 pub first_denied-requires : goal.first_denied-requires
 first_denied-requires g c =
