@@ -1,16 +1,18 @@
 -- The engine's answers, where it is asked what fits, are about the standing lines. Assumes nothing.
-use Rattle.std.proofs.Common.{◌≡◌, ℕ, ◌*◌, ◌<◌, ◌≤◌, List, drop, None, Ok, Option, Result, sym, ap, ◌∙◌, subst, arith}
+use Rattle.std.proofs.Common.{◌≡◌, ℕ, ◌*◌, ◌<◌, ◌≤◌, Bool, List, drop, None, Ok, Option, Result, sym, ap, ◌∙◌, subst, arith}
 use Rattle.std.specs.List.{AllByRecursion}
 use Rattle.std.proofs.ByRecursion.{all_kept_by}
 use Rattle.std.proofs.lemmas.Bool.Decides.{nat_tests}
 use Rattle.engine.specs.Answers.{first_no, room_questions, line_questions, pick_questions, unless, unless_written, written}
+use Rattle.measure.specs.Algebra.{Ring}
 use Rattle.engine.specs.Lines.{roster, every_line}
+use Rattle.engine.specs.Weights.{first_best}
 use Rattle.engine.proofs.Rosters.{Sound, every_line_sound}
 use Rattle.engine.specs.declared.unfit.Unfit.{Unfit}
 use Rattle.rules.specs.Plain.{places_of}
 use Rattle.rules.specs.Standing.{Asked, stands, standing_lines, way}
 use Rattle.standing.proofs.Rounds.{standing_is_roster}
-use Rattle.question.specs.Fits.{Fit}
+use Rattle.question.specs.Fits.{Fit, best_standing}
 
 -- where there is room, the engine does not refuse
 pub room_fits : {n places room : ℕ} → Fit n places room → first_no (room_questions n room) ≡ None
@@ -30,6 +32,11 @@ ok_is {X} o x y is none =
 -- the lines that the engine goes through are those that stand
 pub roster_stands : (a : Asked) {n room : ℕ} → Fit n (places_of a.sheet) room → roster (way a) n ≡ standing_lines a
 roster_stands a f = ap (roster (way a)) f.places_are ∙ sym (standing_is_roster a (subst (λ (k : ℕ). 0 < k) f.places_are f.some))
+
+-- and the first of them of the joined weight is the first that stands
+pub best_is : {M : Type 0} (R : Ring M) (picks : M → M → Bool) (a : Asked) {n room : ℕ} → Fit n (places_of a.sheet) room → first_best R picks n (roster (way a) n) ≡ best_standing R picks a
+best_is R picks a {n} f =
+    ap (first_best R picks n) (roster_stands a f) ∙ ap (λ (k : ℕ). first_best R picks k (standing_lines a)) f.places_are
 
 -- what is written without a no is the line found
 pub line_is : (o : Option Unfit) (found other : Option (List ℕ)) (before after : List ℕ) → after ≡ unless_written o found before → o ≡ None → found ≡ other → after ≡ written other before

@@ -4,3 +4,4 @@ pub mod Laws
 pub mod Measured
 pub mod Orders
 pub mod Stopping
+pub mod Bests

@@ -1,5 +1,12 @@
--- Places for which the engine has room. Assumes nothing.
-use Rattle.std.specs.Prelude.{◌≡◌, ℕ, ◌*◌, ◌<◌, ◌≤◌}
+-- Places for which the engine has room, and lines found over any choosing measure. Assumes nothing.
+use Rattle.std.specs.Prelude.{◌≡◌, ℕ, ◌*◌, ◌<◌, ◌≤◌, Bool, List, Option}
+use Rattle.theme.specs.Refusals.{first_no, or_next}
+use Rattle.measure.specs.Algebra.{Ring}
+use Rattle.engine.specs.Weights.{first_best}
+use Rattle.rules.specs.declared.refusal.Refusal.{Refusal}
+use Rattle.rules.specs.declared.refusal.Refusal.TheVariants.{NoLineStands}
+use Rattle.rules.specs.Questions.{places_asked, line_questions, unless_found}
+use Rattle.rules.specs.Standing.{Asked, standing_lines}
 
 -- a number of places for which there is room
 pub record Fit (n places room : ℕ) : Type 0 where
@@ -7,3 +14,13 @@ pub record Fit (n places room : ℕ) : Type 0 where
   pub some : 0 < n
   pub few : n ≤ 64
   pub roomy : 48 * n ≤ room
+
+-- Any choosing measure ---------------------------------------------------------------------------
+
+-- the first standing line of the joined weight, if one stands
+abbrev pub best_standing : {M : Type 0} → Ring M → (M → M → Bool) → Asked → Option (List ℕ)
+best_standing R picks a = first_best R picks (places_asked a) (standing_lines a)
+
+-- the first no where it is asked for
+abbrev pub best_no : {M : Type 0} → Ring M → (M → M → Bool) → Asked → ℕ → ℕ → Option Refusal
+best_no R picks a room cells = or_next (first_no (line_questions a.sheet a.compass room cells)) (unless_found (best_standing R picks a) NoLineStands)

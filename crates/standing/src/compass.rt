@@ -1,9 +1,9 @@
 // The compass of a question, and the trial in it: inquired after first, then entered.
 // Knows nothing of sheets or lines.
-ghost use Rattle.std.specs.Prelude.{◌≡◌, Some, None, MatchResult};
+ghost use Rattle.std.specs.Prelude.{◌≡◌, true, Some, None, MatchResult};
 ghost use Rattle.theme.specs.Refusals.{first_no, answer};
 ghost use Rattle.rules.specs.Plain.{unless};
-ghost use Rattle.rules.specs.Compasses.{between, compass_questions, trial_questions, with_trial};
+ghost use Rattle.rules.specs.Compasses.{between, compass_questions, trial_questions, trial_fits, with_trial};
 
 use rules::refusal::Refusal;
 use rules::trial::Trial;
@@ -81,6 +81,7 @@ impl Compass {
     pub fn enter(&mut self, trial: Trial) -> Option<Trial>
         ensures former { result ≡ self.old.trial }
         ensures held { self.new ≡ unless (first_no (trial_questions self.old trial)) (with_trial self.old (Some trial)) self.old }
+        ensures fits { trial_fits self.new.lowest self.new.highest result ≡ true }
     {
         let former = self.trial;
         if self.inquire(trial).is_ok() {
