@@ -2,7 +2,6 @@
 use Rattle.std.specs.Prelude.{ℕ, List, length, vec_items}
 use Rattle.rules.specs.Courses.{Reached, draft_at, closed_at, page_no, call_no}
 use Rattle.rules.specs.Faults.{Told, Away, Refused, Done, Line, Number, Weight}
-use Rattle.sheet.specs.Held.{drafted, closed}
 use Rattle.course.specs.Naming.{Sizes}
 use Rattle.course.specs.declared.memory.Memory.{Memory}
 use Rattle.course.specs.declared.state.State.{State}
@@ -12,8 +11,8 @@ use Rattle.course.specs.declared.answer.Answer.TheVariants as answers
 
 -- the plain sheet of a state
 abbrev pub reached_by : State → Reached
-reached_by (Open draft) = draft_at (drafted draft)
-reached_by (Shut sheet) = closed_at (closed sheet)
+reached_by (Open draft) = draft_at draft
+reached_by (Shut sheet) = closed_at sheet
 
 -- an answer as the law knows it
 abbrev pub told : {M : Type 0} → Answer M → Told M

@@ -3,8 +3,7 @@ use Rattle.std.specs.Prelude.{ℕ, min, Bool, List, Some, None, Option}
 use Rattle.std.specs.List.{slice_get}
 use Rattle.counterpoint.specs.declared.moments.Moment.{Moment}
 use Rattle.counterpoint.specs.declared.moments.Succession.{Succession}
-use Rattle.standing.specs.declared.compass.Compass.{Compass}
-use Rattle.standing.specs.Asking.{handed}
+use Rattle.rules.specs.Compasses.{PlainCompass}
 use Rattle.rules.specs.Courses.{Handed, Call, Load, Add, Drop, Fix, Free, Close, Reopen, Decide, Count, Weigh, Pick, Least, Check, Unhanded}
 use Rattle.course.specs.declared.call.Query.{Query}
 use Rattle.course.specs.declared.call.Question.{Question}
@@ -21,13 +20,13 @@ pub record Sizes : Type 0 where
   pub line : ℕ
 
 -- a book and a compass, if there are both
-abbrev pub hands : {B : Type 0} → (B → Moment → Bool) → (B → Succession → Bool) → Option B → Option Compass → Option Handed
+abbrev pub hands : {B : Type 0} → (B → Moment → Bool) → (B → Succession → Bool) → Option B → Option PlainCompass → Option Handed
 hands admits allows None compass = None
 hands admits allows (Some book) None = None
-hands admits allows (Some book) (Some compass) = Some (handed compass (admits book) (allows book))
+hands admits allows (Some book) (Some compass) = Some (record { compass = compass; admits = admits book; allows = allows book })
 
 -- those that a question names by their numbers
-abbrev pub handing : {B : Type 0} → (B → Moment → Bool) → (B → Succession → Bool) → List B → List Compass → Query → Option Handed
+abbrev pub handing : {B : Type 0} → (B → Moment → Bool) → (B → Succession → Bool) → List B → List PlainCompass → Query → Option Handed
 handing admits allows books compasses query = hands admits allows (slice_get books query.book) (slice_get compasses query.compass)
 
 -- a question that is handed this, with so much room, and lent what it says as far as there is so much

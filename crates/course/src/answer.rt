@@ -20,22 +20,48 @@ pub enum Answer<M> {
     Weight(M),
 }
 
-// What loading a page tells.
-pub(crate) fn of_page<M>(outcome: Result<(), PageRefusal>) -> Answer<M>
-    ensures { told result ≡ told_page outcome }
-{
-    match outcome {
-        Ok(_) => Answer::Done,
-        Err(refusal) => Answer::PageRefused(refusal),
+/// What loading a page tells.
+impl<M> From<Result<(), PageRefusal>> for Answer<M> {
+    ghost from_gives = { λ outcome answer. told answer ≡ told_page outcome };
+
+    fn from(outcome: Result<(), PageRefusal>) -> Answer<M> {
+        match outcome {
+            Ok(()) => Answer::Done,
+            Err(refusal) => Answer::PageRefused(refusal),
+        }
     }
 }
 
-// What a call tells that has nothing to give.
-pub(crate) fn of_call<M>(outcome: Result<(), Refusal>) -> Answer<M>
-    ensures { told result ≡ told_done outcome }
+/// What a call tells that has nothing to give.
+impl<M> From<Result<(), Refusal>> for Answer<M> {
+    ghost from_gives = { λ outcome answer. told answer ≡ told_done outcome };
+
+    fn from(outcome: Result<(), Refusal>) -> Answer<M> {
+        match outcome {
+            Ok(()) => Answer::Done,
+            Err(refusal) => Answer::Refused(refusal),
+        }
+    }
+}
+
+/// What a question tells that gives a number of lines.
+impl<M> From<Result<u32, Refusal>> for Answer<M> {
+    ghost from_gives = { λ outcome answer. told answer ≡ told_number outcome };
+
+    fn from(outcome: Result<u32, Refusal>) -> Answer<M> {
+        match outcome {
+            Ok(number) => Answer::Number(number),
+            Err(refusal) => Answer::Refused(refusal),
+        }
+    }
+}
+
+// What a question tells that gives a weight. A measure's values can be numbers, so `From` would be ambiguous.
+pub(crate) fn of_weight<M>(outcome: Result<M, Refusal>) -> Answer<M>
+    ensures { told result ≡ told_weight outcome }
 {
     match outcome {
-        Ok(_) => Answer::Done,
+        Ok(weight) => Answer::Weight(weight),
         Err(refusal) => Answer::Refused(refusal),
     }
 }
@@ -54,24 +80,4 @@ pub(crate) fn of_line<M>(
     let mut cells = Vec::new(heap);
     cells.extend_from_slice(line)?;
     Ok(Answer::Line(cells))
-}
-
-// What a question tells that gives a number of lines.
-pub(crate) fn of_number<M>(outcome: Result<u32, Refusal>) -> Answer<M>
-    ensures { told result ≡ told_number outcome }
-{
-    match outcome {
-        Ok(number) => Answer::Number(number),
-        Err(refusal) => Answer::Refused(refusal),
-    }
-}
-
-// What a question tells that gives a weight.
-pub(crate) fn of_weight<M>(outcome: Result<M, Refusal>) -> Answer<M>
-    ensures { told result ≡ told_weight outcome }
-{
-    match outcome {
-        Ok(weight) => Answer::Weight(weight),
-        Err(refusal) => Answer::Refused(refusal),
-    }
 }

@@ -5,6 +5,7 @@ pub mod answer;
 mod asking;
 pub mod call;
 mod changing;
+pub mod choices;
 mod consulting;
 pub mod memory;
 pub mod running;

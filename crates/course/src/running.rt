@@ -8,13 +8,13 @@ ghost use Rattle.course.specs.Naming.{as_call, handing};
 use super::answer::Answer;
 use super::call::Call;
 use super::changing::change;
+use super::choices::Choices;
 use super::consulting::question;
 use super::memory::Memory;
 use super::state::{State, Step};
 use counterpoint::book::Book;
 use measure::algebra::Measure;
 use sheet::draft::Draft;
-use standing::compass::Compass;
 use std::alloc::{AllocError, Global};
 
 /// What a course comes to: the sheet, and an answer to each call.
@@ -28,18 +28,17 @@ pub struct Played<M> {
 fn play<B: Book, M: Measure>(
     heap: Global,
     state: State,
-    books: &[B],
-    compasses: &[Compass],
+    choices: &Choices<'_, B>,
     call: Call<'_>,
     memory: &mut Memory<'_, M>,
     line: &mut [u8],
 ) -> Result<Step<M>, AllocError>
-    ensures kept { IfOk result (λ step. Kept M.ring (reached_by state) (as_call (handing B.admits B.allows books.now compasses.now) (sizes_of memory.old line.old) call.entry) (told step.answer) (reached_by step.state)) }
+    ensures kept { IfOk result (λ step. Kept M.ring (reached_by state) (as_call (handing B.admits B.allows choices.now.books.now choices.now.compasses.now) (sizes_of memory.old line.old) call.entry) (told step.answer) (reached_by step.state)) }
     ensures sizes { sizes_of memory.new line.new ≡ sizes_of memory.old line.old }
 {
     match state {
         State::Open(draft) => Ok(change(draft, call)),
-        State::Shut(sheet) => question(heap, sheet, books, compasses, call, memory, line),
+        State::Shut(sheet) => question(heap, sheet, choices, call, memory, line),
     }
 }
 
@@ -47,20 +46,19 @@ fn play<B: Book, M: Measure>(
 /// afterwards is what the calls make of a blank one. Only the sheet and the answers need memory.
 pub fn run<B: Book, M: Measure>(
     heap: Global,
-    books: &[B],
-    compasses: &[Compass],
+    choices: &Choices<'_, B>,
     calls: &[Call<'_>],
     memory: &mut Memory<'_, M>,
     line: &mut [u8],
 ) -> Result<Played<M>, AllocError>
-    ensures faultless { IfOk result (λ played. Faultless M.ring Blank (map (as_call (handing B.admits B.allows books.now compasses.now) (sizes_of memory.old line.old)) calls.now) (map told played.answers.items)) }
-    ensures sheet { IfOk result (λ played. reached_by played.state ≡ reached (then_all Blank (map (as_call (handing B.admits B.allows books.now compasses.now) (sizes_of memory.old line.old)) calls.now))) }
+    ensures faultless { IfOk result (λ played. Faultless M.ring Blank (map (as_call (handing B.admits B.allows choices.now.books.now choices.now.compasses.now) (sizes_of memory.old line.old)) calls.now) (map told played.answers.items)) }
+    ensures sheet { IfOk result (λ played. reached_by played.state ≡ reached (then_all Blank (map (as_call (handing B.admits B.allows choices.now.books.now choices.now.compasses.now) (sizes_of memory.old line.old)) calls.now))) }
     ensures sizes { sizes_of memory.new line.new ≡ sizes_of memory.old line.old }
 {
     let mut state = State::Open(Draft::blank(heap)?);
     let mut answers = Vec::new(heap);
     for call in calls {
-        let step = play(heap, state, books, compasses, *call, memory, line)?;
+        let step = play(heap, state, choices, *call, memory, line)?;
         state = step.state;
         answers.push(step.answer)?;
     }

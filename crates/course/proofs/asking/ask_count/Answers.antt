@@ -1,13 +1,12 @@
 use Rattle.std.proofs.Common.{refl}
 use Rattle.rules.specs.Courses.{closed_at}
 use Rattle.rules.proofs.Faultless.{kept_is, count_kept}
-use Rattle.sheet.specs.Held.{closed}
-use Rattle.standing.specs.Asking.{handed}
+use Rattle.standing.specs.Asking.{handed_by}
 use Rattle.course.proofs.asking.ask_count.Goals as goal
 
 pub returns : goal.returns
 returns g c =
     let R = g.M.Measure.ring in
-    let p = closed c.args.sheet.now in
-    let h = handed c.args.compass.now (g.B.Book.admits c.args.book.now) (g.B.Book.allows c.args.book.now) in
-    kept_is R (closed_at p) refl c.of_number.ensures refl (count_kept R p h _ _ c.count.ensures.answer)
+    let p = c.args.asking.now.sheet.now in
+    let h = handed_by g.B.Book.admits g.B.Book.allows c.args.asking.now in
+    kept_is R (closed_at p) refl c.into.ensures refl (count_kept R p h _ _ c.count.ensures.answer)

@@ -1,7 +1,6 @@
 use Rattle.std.proofs.Common.{◌≡◌, Bool, true, false, refl, ap, ◌∙◌, ⊎_elim}
 use Rattle.rules.proofs.Faultless.{away_kept, kept_is, reopen_kept}
 use Rattle.rules.specs.Courses.{Call as Rules-call, lets, closed_at}
-use Rattle.sheet.specs.Held.{closed}
 use Rattle.course.specs.declared.call.Call.{Call}
 use Rattle.course.specs.Holding.{sizes_of, told}
 use Rattle.course.specs.Naming.{as_call, handing}
@@ -11,7 +10,7 @@ use Rattle.course.proofs.consulting.question.Goals as goal
 pub returns-in-Reopen : goal.returns-in-Reopen
 returns-in-Reopen g c =
     let R = g.M.Measure.ring in
-    let name = as_call (handing g.B.Book.admits g.B.Book.allows c.args.books.now c.args.compasses.now) (sizes_of c.args.memory.now c.args.line.now) in
+    let name = as_call (handing g.B.Book.admits g.B.Book.allows c.args.choices.now.books.now c.args.choices.now.compasses.now) (sizes_of c.args.memory.now c.args.line.now) in
     record {
       kept = kept_is R _ (ap name c.in-Reopen.is) refl refl (reopen_kept R _ _ c.reopen.ensures.held);
       sizes = refl;
@@ -20,9 +19,9 @@ returns-in-Reopen g c =
 pub returns : goal.returns
 returns g c =
     let R = g.M.Measure.ring in
-    let here = closed_at (closed c.args.sheet) in
+    let here = closed_at c.args.sheet in
     let name : Call → Rules-call =
-    as_call (handing g.B.Book.admits g.B.Book.allows c.args.books.now c.args.compasses.now) (sizes_of c.args.memory.now c.args.line.now) in
+    as_call (handing g.B.Book.admits g.B.Book.allows c.args.choices.now.books.now c.args.choices.now.compasses.now) (sizes_of c.args.memory.now c.args.line.now) in
     let barred : Call → Bool = λ call. lets true (name call) in
     elim c.match-call.branch [
       | in-Ask+in_ok-answer-in-Ask w ↦

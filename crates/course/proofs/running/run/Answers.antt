@@ -11,7 +11,7 @@ use Rattle.course.proofs.running.run.Goals as goal
 pub loop-call-preserved : goal.loop-call-preserved
 loop-call-preserved g c =
     let R = g.M.Measure.ring in
-    let hand = handing g.B.Book.admits g.B.Book.allows c.args.books.now c.args.compasses.now in
+    let hand = handing g.B.Book.admits g.B.Book.allows c.args.choices.now.books.now c.args.choices.now.compasses.now in
     let name = as_call hand (sizes_of c.args.memory.now c.args.line.now) in
     let calls = c.args.calls.now in
     let i = c.loop-call.call-index in
@@ -29,7 +29,7 @@ loop-call-preserved g c =
 
 pub returns : goal.returns
 returns g c =
-    let name = as_call (handing g.B.Book.admits g.B.Book.allows c.args.books.now c.args.compasses.now) (sizes_of c.args.memory.now c.args.line.now) in
+    let name = as_call (handing g.B.Book.admits g.B.Book.allows c.args.choices.now.books.now c.args.choices.now.compasses.now) (sizes_of c.args.memory.now c.args.line.now) in
     let all = take_all c.loop-call.call-index c.args.calls.now c.loop-call-test.false in
     record {
       faultless = subst (λ (cs : List Call). Faultless g.M.Measure.ring Blank (map name cs) (map told (vec_items c.loop-call.answers))) all c.loop-call.invariant.0;

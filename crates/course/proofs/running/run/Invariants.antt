@@ -8,6 +8,6 @@ use Rattle.course.proofs.running.run.Given as goal
 -- the calls played so far, their answers, the sheet, and what is there to be lent
 abbrev pub invariant-loop-call : goal.invariant-loop-call
 invariant-loop-call g l =
-    Faultless g.M.Measure.ring Blank (map (as_call (handing g.B.Book.admits g.B.Book.allows l.books l.compasses) (sizes_of l.initial.memory l.initial.line)) (take l.call-index l.calls)) (map told (vec_items l.answers))
-    × (reached_by l.state ≡ reached (then_all Blank (map (as_call (handing g.B.Book.admits g.B.Book.allows l.books l.compasses) (sizes_of l.initial.memory l.initial.line)) (take l.call-index l.calls))))
+    Faultless g.M.Measure.ring Blank (map (as_call (handing g.B.Book.admits g.B.Book.allows l.choices.books.now l.choices.compasses.now) (sizes_of l.initial.memory l.initial.line)) (take l.call-index l.calls)) (map told (vec_items l.answers))
+    × (reached_by l.state ≡ reached (then_all Blank (map (as_call (handing g.B.Book.admits g.B.Book.allows l.choices.books.now l.choices.compasses.now) (sizes_of l.initial.memory l.initial.line)) (take l.call-index l.calls))))
     × (sizes_of l.memory l.line ≡ sizes_of l.initial.memory l.initial.line)
