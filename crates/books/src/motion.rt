@@ -29,23 +29,13 @@ impl Steps {
         self.line != 0 && self.theme != 0
     }
 
-    // The step of the voice that is struck at a moment with one voice held.
-    pub(crate) fn of_struck(self, moment: Moment) -> i32
-        ensures { result ≡ struck_step moment self.line self.theme }
+    // The steps of the struck voice and of the held one, at a moment with one voice held.
+    pub(crate) fn struck_and_held(self, moment: Moment) -> (i32, i32)
+        ensures { result ≡ (struck_step moment self.line self.theme, held_step moment self.line self.theme) }
     {
         match moment.line {
-            Voice::Struck => self.line,
-            Voice::Held => self.theme,
-        }
-    }
-
-    // The step of the voice that is held there.
-    pub(crate) fn of_held(self, moment: Moment) -> i32
-        ensures { result ≡ held_step moment self.line self.theme }
-    {
-        match moment.line {
-            Voice::Struck => self.theme,
-            Voice::Held => self.line,
+            Voice::Struck => (self.line, self.theme),
+            Voice::Held => (self.theme, self.line),
         }
     }
 }

@@ -15,7 +15,8 @@ use counterpoint::moments::{Accent, Moment, Succession, Voice};
 pub struct Strict;
 
 // The verdicts on moments, a row for each class from 0 to 6: with both voices struck, with the
-// theme held, with the line held, with both held.
+// theme held, with the line held, with both held. They are a constant table by a rule of the
+// project, which wants all 28 written out and proved equal to the rule on moments.
 const VERDICTS: [[bool; 4]; 7] = [
     [true, true, true, true], // unisons and octaves
     [false, true, true, false], // seconds
@@ -78,20 +79,21 @@ fn has_one_held(moment: Moment) -> bool
 fn enters_well(second: Moment, steps: Steps) -> bool
     ensures { result ≡ entered_well second steps.line steps.theme }
 {
+    let (struck, _) = steps.struck_and_held(second);
     !is_dissonant(second.interval)
-        || has_one_held(second)
-            && (second.accent == Accent::Strong || steps.of_struck(second).unsigned_abs() == 1)
+        || has_one_held(second) && (second.accent == Accent::Strong || struck.unsigned_abs() == 1)
 }
 
 // Whether a moment, if it is a dissonance, is well left by the steps that lead on from it.
 fn leaves_well(first: Moment, steps: Steps) -> bool
     ensures { result ≡ left_well first steps.line steps.theme }
 {
+    let (struck, held) = steps.struck_and_held(first);
     !is_dissonant(first.interval)
         || has_one_held(first)
             && match first.accent {
-                Accent::Weak => steps.of_struck(first).unsigned_abs() == 1,
-                Accent::Strong => steps.of_held(first) == -1,
+                Accent::Weak => struck.unsigned_abs() == 1,
+                Accent::Strong => held == -1,
             }
 }
 
