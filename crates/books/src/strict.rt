@@ -14,30 +14,24 @@ use counterpoint::moments::{Accent, Moment, Succession, Voice};
 #[derive(Clone, Copy, PartialEq, Eq, Hash, Debug)]
 pub struct Strict;
 
-// The verdicts on moments, a row for each class from 0 to 6: with both voices struck, with the
-// theme held, with the line held, with both held. They are a constant table by a rule of the
-// project, which wants all 28 written out and proved equal to the rule on moments.
-const VERDICTS: [[bool; 4]; 7] = [
-    [true, true, true, true], // unisons and octaves
-    [false, true, true, false], // seconds
-    [true, true, true, true], // thirds
-    [false, true, true, false], // fourths
-    [true, true, true, true], // fifths
-    [true, true, true, true], // sixths
-    [false, true, true, false], // sevenths
+// The verdicts on moments: for each class from 0 to 6, with the line struck and with it held, and
+// for each of these with the theme struck and with it held. They are a constant table by a rule of
+// the project, which wants all 28 written out and proved equal to the rule on moments.
+const VERDICTS: [[[bool; 2]; 2]; 7] = [
+    [[true, true], [true, true]], // unisons and octaves
+    [[false, true], [true, false]], // seconds
+    [[true, true], [true, true]], // thirds
+    [[false, true], [true, false]], // fourths
+    [[true, true], [true, true]], // fifths
+    [[true, true], [true, true]], // sixths
+    [[false, true], [true, false]], // sevenths
 ];
 
 // What the table says of a moment.
 fn verdict(moment: Moment) -> bool
     ensures { result ≡ strict_rule moment }
 {
-    let [both_struck, theme_held, line_held, both_held] = VERDICTS[class(moment.interval) as usize];
-    match (moment.line, moment.theme) {
-        (Voice::Struck, Voice::Struck) => both_struck,
-        (Voice::Struck, Voice::Held) => theme_held,
-        (Voice::Held, Voice::Struck) => line_held,
-        (Voice::Held, Voice::Held) => both_held,
-    }
+    VERDICTS[class(moment.interval) as usize][moment.line as usize][moment.theme as usize]
 }
 
 // Whether the line can sing a step.
