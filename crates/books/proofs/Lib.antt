@@ -1,3 +1,0 @@
-pub mod Conjunctions
-pub mod Bounds
-pub mod Raised

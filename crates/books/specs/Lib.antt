@@ -1,6 +1,5 @@
 pub mod Motion
 pub mod Free
 pub mod Strict
-pub mod Verdicts
 pub mod Vertical
 pub mod Examples

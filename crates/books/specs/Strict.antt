@@ -1,9 +1,9 @@
 -- The strict book.
 -- Assumes nothing.
-use Rattle.std.specs.Prelude.{Bool, cond, not, ◌&&◌, ◌||◌, ℤ, ◌==◌, nat_le, unsigned_abs}
+use Rattle.std.specs.Prelude.{Bool, not, ◌&&◌, ◌||◌, ℤ, ◌==◌, nat_le, unsigned_abs}
 use Rattle.counterpoint.specs.Interval.{consonant, dissonant, perfect}
-use Rattle.counterpoint.specs.Moments.{held, strong, one_held, second_moment, moment_in_range, succession_in_range}
-use Rattle.books.specs.Motion.{down, similar, both_move, one_perfect_class}
+use Rattle.counterpoint.specs.Moments.{strong, one_held, second_moment, moment_in_range, succession_in_range}
+use Rattle.books.specs.Motion.{down, similar, both_move, one_perfect_class, struck_step, held_step}
 use Rattle.counterpoint.specs.declared.moments.Moment.{Moment}
 use Rattle.counterpoint.specs.declared.moments.Succession.{Succession}
 
@@ -38,14 +38,6 @@ weak_dissonance m = dissonant m.interval && not (strong m.accent)
 
 abbrev pub strong_dissonance : Moment → Bool
 strong_dissonance m = dissonant m.interval && strong m.accent
-
--- of the steps of line and theme, that of the voice which is struck at a moment with one voice held
-abbrev pub struck_step : Moment → ℤ → ℤ → ℤ
-struck_step m dx dc = cond (held m.line) dc dx
-
--- and that of the voice which is held there
-abbrev pub held_step : Moment → ℤ → ℤ → ℤ
-held_step m dx dc = cond (held m.line) dx dc
 
 -- a weak dissonance is entered, and left, by a step of size 1 in the voice struck there
 abbrev pub passed_by_step : Moment → ℤ → ℤ → Bool

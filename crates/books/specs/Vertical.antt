@@ -14,6 +14,10 @@ vertical_admits admits v m = admits m && admits (raised v m)
 abbrev pub vertical_allows : (Succession → Bool) → ℤ → Succession → Bool
 vertical_allows allows v s = allows s && allows (raised_succession v s)
 
+-- two layers may be laid only with both shifts in range
+abbrev pub shifts_in_range : ℤ → ℤ → Bool
+shifts_in_range inner outer = shift_in_range inner && shift_in_range outer
+
 -- what is asked of a book under a layer for each of two shifts: refused unless both are in range
 abbrev pub pile_answer : ℤ → ℤ → Bool → Result Bool Refusal
-pile_answer inner outer verdict = cond (shift_in_range inner && shift_in_range outer) (Ok verdict) (Err ShiftOutOfRange)
+pile_answer inner outer verdict = cond (shifts_in_range inner outer) (Ok verdict) (Err ShiftOutOfRange)

@@ -59,8 +59,8 @@ fn intervals_hold() -> bool
     ensures { result ≡ true }
 {
     class(-3) == 3
-        && matches!(kind(-11, 5), Ok(IntervalKind::VariableConsonance))
-        && matches!(kind(-11, 6), Ok(IntervalKind::VariableDissonance))
+        && kind(-11, 5) == Ok(IntervalKind::VariableConsonance)
+        && kind(-11, 6) == Ok(IntervalKind::VariableDissonance)
 }
 
 fn moments_hold() -> bool

@@ -4,13 +4,13 @@ ghost use Rattle.std.specs.Prelude.{◌≡◌};
 ghost use Rattle.books.specs.Free.{free_admits, free_allows};
 ghost use Rattle.std.proofs.Common.{rules};
 
-use crate::motion::is_parallel;
+use crate::motion::Motion;
 use counterpoint::book::Book;
 use counterpoint::interval::{is_dissonant, is_interval_in_range};
 use counterpoint::moments::{Accent, Moment, Succession, Voice};
 
 /// The free book: it refuses unprepared strong dissonances, far leaps, and parallel perfect consonances.
-#[derive(Clone, Copy)]
+#[derive(Clone, Copy, PartialEq, Eq, Hash, Debug)]
 pub struct Free;
 
 impl Book for Free {
@@ -21,18 +21,14 @@ impl Book for Free {
     ghost bounded = { Prim.search rules };
 
     fn admits(&self, moment: Moment) -> bool {
-        let bare = matches!(
-            (moment.line, moment.theme, moment.accent),
-            (Voice::Struck, Voice::Struck, Accent::Strong)
-        );
+        let bare = (moment.line, moment.theme, moment.accent)
+            == (Voice::Struck, Voice::Struck, Accent::Strong);
         is_interval_in_range(moment.interval) && !(bare && is_dissonant(moment.interval))
     }
 
     fn allows(&self, succession: Succession) -> bool {
-        let Some(second) = succession.second() else {
-            return false;
-        };
-        let Succession { first, dx, dc, .. } = succession;
-        dx.unsigned_abs() <= 9 && !is_parallel(first.interval, second.interval, dx, dc)
+        Motion::of(succession).is_some_and(|motion| {
+            motion.steps.line.unsigned_abs() <= 9 && !motion.is_parallel()
+        })
     }
 }

@@ -7,7 +7,8 @@ use counterpoint::moments::{Moment, Succession};
 
 // The same moment with the line raised by `shift`.
 pub(crate) fn raise(moment: Moment, shift: i32) -> Moment
-    requires { (moment_in_range moment ≡ true) × (shift_in_range shift ≡ true) }
+    requires moment { moment_in_range moment ≡ true }
+    requires shift { shift_in_range shift ≡ true }
     ensures { result ≡ raised shift moment }
 {
     Moment {
@@ -18,7 +19,8 @@ pub(crate) fn raise(moment: Moment, shift: i32) -> Moment
 
 // The same succession with the line raised by `shift` at both moments.
 pub(crate) fn raise_both(succession: Succession, shift: i32) -> Succession
-    requires { (moment_in_range succession.first ≡ true) × (shift_in_range shift ≡ true) }
+    requires first { moment_in_range succession.first ≡ true }
+    requires shift { shift_in_range shift ≡ true }
     ensures answer { result ≡ raised_succession shift succession }
     ensures second { second_moment (raised_succession shift succession) ≡ raised shift (second_moment succession) }
 {

@@ -5,7 +5,7 @@ ghost use Rattle.counterpoint.specs.Interval.{shift_in_range};
 ghost use Rattle.books.specs.Vertical.{vertical_admits, vertical_allows};
 ghost use Rattle.std.proofs.Common.{rules};
 
-use super::raising::{raise, raise_both};
+use crate::raising::{raise, raise_both};
 use counterpoint::book::Book;
 use counterpoint::interval::is_shift_in_range;
 use counterpoint::moments::{Moment, Succession};
@@ -13,7 +13,7 @@ use counterpoint::refusal::Refusal;
 
 /// A book that says yes to a question exactly if the book below says yes to it, and to the same
 /// question with the line raised by the shift.
-#[derive(Drop)]
+#[derive(PartialEq, Eq, Hash, Debug, Drop)]
 pub struct Vertical<B> {
     below: B,
     shift: i32,

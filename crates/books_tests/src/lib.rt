@@ -36,9 +36,9 @@ mod tests {
 
     #[test]
     fn the_ends_of_the_range(rt: HostRuntime) {
-        assert!(rt; matches!(kind(23, 100), Ok(IntervalKind::FixedConsonance)));
-        assert!(rt; matches!(kind(i32::MIN, i32::MIN), Err(Refusal::ShiftOutOfRange)));
-        assert!(rt; matches!(kind(0, i32::MIN), Err(Refusal::IntervalOutOfRange)));
+        assert_eq!(rt; kind(23, 100), Ok(IntervalKind::FixedConsonance));
+        assert_eq!(rt; kind(i32::MIN, i32::MIN), Err(Refusal::ShiftOutOfRange));
+        assert_eq!(rt; kind(0, i32::MIN), Err(Refusal::IntervalOutOfRange));
         assert!(rt; !Strict.admits(struck(i32::MIN)));
         assert!(rt; !Free.admits(struck(i32::MAX)));
         assert!(rt; !Free.allows(steps(i32::MAX, i32::MAX, i32::MIN)));

@@ -9,6 +9,7 @@ pub const WIDEST_INTERVAL: u32 = 100;
 /// The largest step or shift, up or down, that is ever judged.
 pub const WIDEST_STEP: u32 = 23;
 
+// The rules know a class by its number, 0 to 6, so it is one, and no enum.
 /// The class of an interval: its size without sign, modulo 7.
 pub fn class(interval: i32) -> u32
     ensures { result ≡ class_of interval }
@@ -37,6 +38,7 @@ pub fn is_dissonant(interval: i32) -> bool
     matches!(class(interval), 1 | 3 | 6)
 }
 
+// One function of the limit would be no plainer: it would stand for one comparison in each of two.
 /// Whether an interval is -100 to 100.
 pub fn is_interval_in_range(interval: i32) -> bool
     ensures { result ≡ interval_in_range interval }

@@ -7,7 +7,7 @@ ghost use Rattle.counterpoint.specs.Moments.{moment_in_range, second_in_range, s
 use crate::interval::{is_interval_in_range, is_shift_in_range};
 
 /// How a voice sounds: struck anew, or held over from the moment before.
-#[derive(Clone, Copy)]
+#[derive(Clone, Copy, PartialEq, Eq, Hash, Debug)]
 pub enum Voice {
     /// It begins to sound here.
     Struck,
@@ -16,7 +16,7 @@ pub enum Voice {
 }
 
 /// Whether a moment falls on a strong place or on a weak one.
-#[derive(Clone, Copy)]
+#[derive(Clone, Copy, PartialEq, Eq, Hash, Debug)]
 pub enum Accent {
     /// The place is accented.
     Strong,
@@ -25,7 +25,7 @@ pub enum Accent {
 }
 
 /// What sounds together at one place.
-#[derive(Clone, Copy)]
+#[derive(Clone, Copy, PartialEq, Eq, Hash, Debug)]
 pub struct Moment {
     /// The line's key less the theme's.
     pub interval: i32,
@@ -38,7 +38,7 @@ pub struct Moment {
 }
 
 /// A moment and the way on to the next one, whose interval follows from it.
-#[derive(Clone, Copy)]
+#[derive(Clone, Copy, PartialEq, Eq, Hash, Debug)]
 pub struct Succession {
     /// The moment that is left.
     pub first: Moment,
@@ -80,7 +80,9 @@ impl Succession {
 
     // The interval that the two steps lead to, where all three are in range.
     fn second_interval(self) -> i32
-        requires { (moment_in_range self.first ≡ true) × ((shift_in_range self.dx ≡ true) × (shift_in_range self.dc ≡ true)) }
+        requires first { moment_in_range self.first ≡ true }
+        requires line { shift_in_range self.dx ≡ true }
+        requires theme { shift_in_range self.dc ≡ true }
         ensures { result ≡ second_interval self }
     {
         self.first.interval + self.dx - self.dc
