@@ -5,17 +5,23 @@ use Rattle.counterpoint.specs.declared.moments.Succession.{Succession}
 use Rattle.books.specs.Strict.{strict_admits, strict_allows}
 use Rattle.books.specs.Free.{free_admits, free_allows}
 use Rattle.books.specs.Vertical.{vertical_admits, vertical_allows}
+use Rattle.script.specs.declared.book.Rules.{Rules}
+use Rattle.script.specs.declared.book.Rules.TheVariants.{Strict, Free}
 use Rattle.script.specs.declared.book.AnyBook.{AnyBook}
-use Rattle.script.specs.declared.book.AnyBook.TheVariants.{Strict, Free, OverStrict, OverFree}
+use Rattle.script.specs.declared.book.AnyBook.TheVariants.{Bare, Layered}
+
+abbrev pub rules_admit : Rules → Moment → Bool
+rules_admit Strict = strict_admits
+rules_admit Free = free_admits
+
+abbrev pub rules_allow : Rules → Succession → Bool
+rules_allow Strict = strict_allows
+rules_allow Free = free_allows
 
 abbrev pub any_admits : AnyBook → Moment → Bool
-any_admits Strict = strict_admits
-any_admits Free = free_admits
-any_admits (OverStrict layer) = vertical_admits strict_admits layer.shift
-any_admits (OverFree layer) = vertical_admits free_admits layer.shift
+any_admits (Bare rules) = rules_admit rules
+any_admits (Layered layer) = vertical_admits (rules_admit layer.below) layer.shift
 
 abbrev pub any_allows : AnyBook → Succession → Bool
-any_allows Strict = strict_allows
-any_allows Free = free_allows
-any_allows (OverStrict layer) = vertical_allows strict_allows layer.shift
-any_allows (OverFree layer) = vertical_allows free_allows layer.shift
+any_allows (Bare rules) = rules_allow rules
+any_allows (Layered layer) = vertical_allows (rules_allow layer.below) layer.shift

@@ -2,9 +2,8 @@
 use Rattle.std.specs.Prelude.{Bool, cond, ℤ, Some, None, Option}
 use Rattle.counterpoint.specs.declared.moments.Moment.{Moment}
 use Rattle.counterpoint.specs.declared.moments.Succession.{Succession}
-use Rattle.books.specs.Strict.{strict_admits, strict_allows}
-use Rattle.books.specs.Free.{free_admits, free_allows}
 use Rattle.books.specs.Vertical.{vertical_admits, vertical_allows}
+use Rattle.script.specs.Books.{rules_admit, rules_allow}
 use Rattle.script.specs.declared.statement.BookName.{BookName}
 use Rattle.counterpoint.specs.Interval.{shift_in_range}
 use Rattle.theme.specs.Refusals.{first_no, or_next}
@@ -14,16 +13,6 @@ use Rattle.rules.specs.declared.trial.Trial.{Trial}
 use Rattle.rules.specs.Compasses.{PlainCompass, compass_questions, trial_questions}
 use Rattle.script.specs.declared.statement.Keys.{Keys}
 use Rattle.script.specs.declared.statement.Options.{Options}
-use Rattle.script.specs.declared.statement.Rules.{Rules}
-use Rattle.script.specs.declared.statement.Rules.TheVariants.{Strict, Free}
-
-abbrev pub rules_admit : Rules → Moment → Bool
-rules_admit Strict = strict_admits
-rules_admit Free = free_admits
-
-abbrev pub rules_allow : Rules → Succession → Bool
-rules_allow Strict = strict_allows
-rules_allow Free = free_allows
 
 -- under a layer, if there is one
 abbrev pub layered_admits : Option ℤ → (Moment → Bool) → Moment → Bool

@@ -1,6 +1,6 @@
 // The books that a script can name, as one book. Knows nothing of scripts.
 ghost use Rattle.std.specs.Prelude.{◌≡◌};
-ghost use Rattle.script.specs.Books.{any_admits, any_allows};
+ghost use Rattle.script.specs.Books.{rules_admit, rules_allow, any_admits, any_allows};
 ghost use Rattle.std.proofs.Common.{rules};
 
 use books::free::Free;
@@ -9,13 +9,40 @@ use books::vertical::Vertical;
 use counterpoint::book::Book;
 use counterpoint::moments::{Moment, Succession};
 
-/// The strict or the free book, bare or under one layer.
-#[derive(Drop)]
-pub enum AnyBook {
+/// The two books that have names.
+#[derive(Clone, Copy, PartialEq, Eq, Debug)]
+pub enum Rules {
     Strict,
     Free,
-    OverStrict(Vertical<Strict>),
-    OverFree(Vertical<Free>),
+}
+
+impl Book for Rules {
+    ghost admits = { rules_admit };
+
+    ghost allows = { rules_allow };
+
+    ghost bounded = { Prim.search rules };
+
+    fn admits(&self, moment: Moment) -> bool {
+        match self {
+            Rules::Strict => Strict.admits(moment),
+            Rules::Free => Free.admits(moment),
+        }
+    }
+
+    fn allows(&self, succession: Succession) -> bool {
+        match self {
+            Rules::Strict => Strict.allows(succession),
+            Rules::Free => Free.allows(succession),
+        }
+    }
+}
+
+/// One of them, bare or under one layer.
+#[derive(Drop)]
+pub enum AnyBook {
+    Bare(Rules),
+    Layered(Vertical<Rules>),
 }
 
 impl Book for AnyBook {
@@ -27,19 +54,15 @@ impl Book for AnyBook {
 
     fn admits(&self, moment: Moment) -> bool {
         match self {
-            AnyBook::Strict => Strict.admits(moment),
-            AnyBook::Free => Free.admits(moment),
-            AnyBook::OverStrict(layer) => layer.admits(moment),
-            AnyBook::OverFree(layer) => layer.admits(moment),
+            AnyBook::Bare(rules) => rules.admits(moment),
+            AnyBook::Layered(layer) => layer.admits(moment),
         }
     }
 
     fn allows(&self, succession: Succession) -> bool {
         match self {
-            AnyBook::Strict => Strict.allows(succession),
-            AnyBook::Free => Free.allows(succession),
-            AnyBook::OverStrict(layer) => layer.allows(succession),
-            AnyBook::OverFree(layer) => layer.allows(succession),
+            AnyBook::Bare(rules) => rules.allows(succession),
+            AnyBook::Layered(layer) => layer.allows(succession),
         }
     }
 }

@@ -2,7 +2,7 @@
 ghost use Rattle.std.specs.Prelude.{◌≡◌, ◌+◌, min, IfOk, IfErr, Some, vec_len, OnOk, slice_index_or};
 ghost use Rattle.std.specs.Option.{unwrap_or};
 ghost use Rattle.theme.specs.Refusals.{or_next};
-ghost use Rattle.standing.specs.Held.{plain_compass};
+ghost use Rattle.rules.specs.Compasses.{PlainCompass};
 ghost use Rattle.script.specs.Books.{any_admits, any_allows};
 ghost use Rattle.script.specs.Names.{named_admits, named_allows, book_no, asked_compass, compass_no};
 ghost use Rattle.script.specs.Steps.{step_of, steps_in, MakeAll};
@@ -49,7 +49,7 @@ struct Handed {
 // The book of a name and the compass of some options.
 fn hand(book: BookName, options: Options) -> Result<Handed, Refusal>
     ensures book { IfOk result (λ handed. (any_admits handed.book ≡ named_admits book) × (any_allows handed.book ≡ named_allows book)) }
-    ensures compass { IfOk result (λ handed. plain_compass handed.compass ≡ asked_compass options) }
+    ensures compass { IfOk result (λ handed. handed.compass ≡ asked_compass options) }
     ensures refused { IfErr result (λ refusal. or_next (book_no book) (compass_no options) ≡ Some refusal) }
 {
     Ok(Handed {
@@ -74,7 +74,7 @@ impl Script {
     /// The step of a question, whose book and compass are kept, or why there is none.
     pub fn ask(&mut self, question: Question) -> Result<Result<Step, Refusal>, Fault>
         ensures book { IfOk result (λ asked. OnOk asked ((d : AnyBook) → (any_admits (slice_index_or self.new.books.items (vec_len self.old.books) d) ≡ named_admits question.book) × (any_allows (slice_index_or self.new.books.items (vec_len self.old.books) d) ≡ named_allows question.book))) }
-        ensures compass { IfOk result (λ asked. OnOk asked ((d : Compass) → plain_compass (slice_index_or self.new.compasses.items (vec_len self.old.compasses) d) ≡ asked_compass question.options)) }
+        ensures compass { IfOk result (λ asked. OnOk asked ((d : PlainCompass) → slice_index_or self.new.compasses.items (vec_len self.old.compasses) d ≡ asked_compass question.options)) }
         ensures refused { IfOk result (λ asked. IfErr asked (λ refusal. or_next (book_no question.book) (compass_no question.options) ≡ Some refusal)) }
         ensures step { IfOk result (λ asked. IfOk asked (λ step. step ≡ step_of question.asks (record { book = vec_len self.old.books; compass = vec_len self.old.compasses; room = min (unwrap_or question.options.room 3072) 3072 }) (min (unwrap_or question.options.cells 64) 64))) }
     {

@@ -1,14 +1,11 @@
 // What a question is handed: its book, its compass, and as many working values and cells as it says.
 ghost use Rattle.std.specs.Prelude.{◌≡◌, min, Some, None, MatchResult};
 ghost use Rattle.std.specs.Option.{unwrap_or};
-ghost use Rattle.standing.specs.Held.{plain_compass};
 ghost use Rattle.script.specs.Books.{any_admits, any_allows};
 ghost use Rattle.script.specs.Names.{named_admits, named_allows, book_no, asked_compass, compass_no};
 
 use super::book::AnyBook;
-use super::statement::{BookName, Keys, Options, Rules};
-use books::free::Free;
-use books::strict::Strict;
+use super::statement::{BookName, Keys, Options};
 use books::vertical::Vertical;
 use rules::refusal::Refusal;
 use standing::compass::Compass;
@@ -31,20 +28,11 @@ impl BookName {
         ensures { MatchResult result (λ book. (book_no self ≡ None) × (any_admits book ≡ named_admits self) × (any_allows book ≡ named_allows self)) (λ refusal. book_no self ≡ Some refusal) }
     {
         let Some(shift) = self.shift else {
-            return Ok(match self.rules {
-                Rules::Strict => AnyBook::Strict,
-                Rules::Free => AnyBook::Free,
-            });
+            return Ok(AnyBook::Bare(self.rules));
         };
-        match self.rules {
-            Rules::Strict => match Vertical::new(Strict, shift) {
-                Ok(layer) => Ok(AnyBook::OverStrict(layer)),
-                Err(_) => Err(Refusal::ShiftOutOfRange),
-            },
-            Rules::Free => match Vertical::new(Free, shift) {
-                Ok(layer) => Ok(AnyBook::OverFree(layer)),
-                Err(_) => Err(Refusal::ShiftOutOfRange),
-            },
+        match Vertical::new(self.rules, shift) {
+            Ok(layer) => Ok(AnyBook::Layered(layer)),
+            Err(_) => Err(Refusal::ShiftOutOfRange),
         }
     }
 }
@@ -52,7 +40,7 @@ impl BookName {
 impl Options {
     /// The compass, with its trial in force, refused where the keys or the trial do not fit.
     pub fn compass(self) -> Result<Compass, Refusal>
-        ensures { MatchResult result (λ compass. (compass_no self ≡ None) × (plain_compass compass ≡ asked_compass self)) (λ refusal. compass_no self ≡ Some refusal) }
+        ensures { MatchResult result (λ compass. (compass_no self ≡ None) × (compass ≡ asked_compass self)) (λ refusal. compass_no self ≡ Some refusal) }
     {
         let keys = self.keys.unwrap_or(ALL_KEYS);
         let mut compass = Compass::new(keys.lowest, keys.highest)?;

@@ -3,8 +3,9 @@ ghost use Rattle.std.specs.Prelude.{◌≡◌, ◌<◌, ◌≤◌, true, length,
 ghost use Rattle.script.specs.declared.fault.Fault.TheVariants.{NotACall};
 ghost use Rattle.script.specs.Changes.{is_change, is_check, ChangesOnly};
 
+use super::book::Rules;
 use super::fault::Fault;
-use super::statement::{Asks, BookName, Keys, Options, Question, Rules, Statement};
+use super::statement::{Asks, BookName, Keys, Options, Question, Statement};
 use course::call::{Call, Setting};
 use rules::trial::Trial;
 use std::alloc::Global;
@@ -16,10 +17,7 @@ where
     N::Err: Drop,
     ensures { IfErr result (λ fault. fault ≡ NotACall) }
 {
-    match word.parse() {
-        Ok(number) => Ok(number),
-        Err(_) => Err(Fault::NotACall),
-    }
+    word.parse().map_err(|_| Fault::NotACall)
 }
 
 // The number that some words are.
@@ -48,81 +46,71 @@ where
     }
 }
 
-// The rules that a word names.
-fn rules_named(word: &str) -> Result<Rules, Fault>
-    ensures { IfErr result (λ fault. fault ≡ NotACall) }
-{
-    match word {
-        "strict" => Ok(Rules::Strict),
-        "free" => Ok(Rules::Free),
-        _ => Err(Fault::NotACall),
+impl FromStr for Rules {
+    type Err = Fault;
+
+    fn from_str(word: &str) -> Result<Rules, Fault> {
+        match word {
+            "strict" => Ok(Rules::Strict),
+            "free" => Ok(Rules::Free),
+            _ => Err(Fault::NotACall),
+        }
     }
 }
 
 // A book by its word, as `strict` or `free+7`.
-fn book_name(word: &str) -> Result<BookName, Fault>
-    ensures { IfErr result (λ fault. fault ≡ NotACall) }
-{
-    let (rules, shift) = match word.split_once('+') {
-        Some((name, shift)) => (rules_named(name)?, Some(number(shift)?)),
-        None => (rules_named(word)?, None),
-    };
-    Ok(BookName { rules, shift })
+impl FromStr for BookName {
+    type Err = Fault;
+
+    fn from_str(word: &str) -> Result<BookName, Fault> {
+        let (rules, shift) = match word.split_once('+') {
+            Some((name, shift)) => (name.parse()?, Some(number(shift)?)),
+            None => (word.parse()?, None),
+        };
+        Ok(BookName { rules, shift })
+    }
 }
 
-// Sets an option that is not given yet.
-fn set_option(options: &mut Options, name: &str, values: &[&str]) -> Result<(), Fault>
-    ensures { IfErr result (λ fault. fault ≡ NotACall) }
+// Takes an option that is not given yet off the front of some words, and gives the words behind it.
+fn take_option<'a>(options: &mut Options, words: &'a [&'a str]) -> Result<&'a [&'a str], Fault>
+    ensures { MatchResult result (λ rest. length rest.now < length words.now) (λ fault. fault ≡ NotACall) }
 {
-    match name {
-        "keys" if options.keys.is_none() => {
-            let (lowest, highest) = two(values)?;
+    match words {
+        ["keys", lowest, highest, rest @ ..] if options.keys.is_none() => {
+            let (lowest, highest) = (number(lowest)?, number(highest)?);
             options.keys = Some(Keys { lowest, highest });
+            Ok(rest)
         }
-        "try" if options.trial.is_none() => {
-            let (place, key) = two(values)?;
+        ["try", place, key, rest @ ..] if options.trial.is_none() => {
+            let (place, key) = (number(place)?, number(key)?);
             options.trial = Some(Trial { place, key });
+            Ok(rest)
         }
-        "room" if options.room.is_none() => options.room = Some(one(values)?),
-        "cells" if options.cells.is_none() => options.cells = Some(one(values)?),
-        _ => return Err(Fault::NotACall),
-    }
-    Ok(())
-}
-
-// How many words an option has, its name among them.
-fn width(name: &str) -> usize
-    ensures { 0 < result }
-{
-    match name {
-        "keys" | "try" => 3,
-        _ => 2,
+        ["room", room, rest @ ..] if options.room.is_none() => {
+            options.room = Some(number(room)?);
+            Ok(rest)
+        }
+        ["cells", cells, rest @ ..] if options.cells.is_none() => {
+            options.cells = Some(number(cells)?);
+            Ok(rest)
+        }
+        _ => Err(Fault::NotACall),
     }
 }
 
-// Takes an option off the front of some words, and says how many words it has.
-fn take_option(options: &mut Options, words: &[&str]) -> Result<usize, Fault>
-    requires { 0 < length words.now }
-    ensures { MatchResult result (λ taken. (0 < taken) × (taken ≤ length words.now)) (λ fault. fault ≡ NotACall) }
+// The options at the front of some words, up to the word `line` or the end, and the words behind them.
+fn options<'a>(words: &'a [&'a str]) -> Result<(Options, &'a [&'a str]), Fault>
+    ensures { IfErr result (λ fault. fault ≡ NotACall) }
 {
-    let taken = width(words[0]);
-    if words.len() < taken {
-        return Err(Fault::NotACall);
+    let mut options = Options::default();
+    let mut rest = words;
+    while let [name, ..] = rest {
+        if *name == "line" {
+            break;
+        }
+        rest = take_option(&mut options, rest)?;
     }
-    set_option(options, words[0], &words[1..taken])?;
-    Ok(taken)
-}
-
-// The options among some words, up to the word `line` or the end, and the number of their words.
-fn options(words: &[&str]) -> Result<(Options, usize), Fault>
-    ensures { MatchResult result (λ found. found.1 ≤ length words.now) (λ fault. fault ≡ NotACall) }
-{
-    let mut options = Options::none();
-    let mut taken = 0;
-    while taken < words.len() && words[taken] != "line" {
-        taken += take_option(&mut options, &words[taken..])?;
-    }
-    Ok((options, taken))
+    Ok((options, rest))
 }
 
 // A question about the book that the first word names, whose words end with the options.
@@ -132,11 +120,10 @@ fn question(asks: Asks, words: &[&str]) -> Result<Question, Fault>
     let [book, words @ ..] = words else {
         return Err(Fault::NotACall);
     };
-    let book = book_name(book)?;
-    let (options, taken) = options(words)?;
-    if taken < words.len() {
+    let book = book.parse()?;
+    let (options, []) = options(words)? else {
         return Err(Fault::NotACall);
-    }
+    };
     Ok(Question {
         asks,
         book,
@@ -175,9 +162,8 @@ fn check(heap: Global, words: &[&str]) -> Result<Question, Fault>
     let [book, words @ ..] = words else {
         return Err(Fault::NotACall);
     };
-    let book = book_name(book)?;
-    let (options, taken) = options(words)?;
-    let ["line", line @ ..] = &words[taken..] else {
+    let book = book.parse()?;
+    let (options, ["line", line @ ..]) = options(words)? else {
         return Err(Fault::NotACall);
     };
     Ok(Question {

@@ -1,15 +1,7 @@
 // What a line of a script can say, as data. Knows nothing of words.
-ghost use Rattle.std.specs.Prelude.{◌≡◌, None};
-
+use super::book::Rules;
 use course::call::Call;
 use rules::trial::Trial;
-
-/// The two books that have names.
-#[derive(Clone, Copy)]
-pub enum Rules {
-    Strict,
-    Free,
-}
 
 /// A book by its name, and the shift of the layer over it, if there is one.
 #[derive(Clone, Copy)]
@@ -26,7 +18,7 @@ pub struct Keys {
 }
 
 /// What a question says of its compass, its working values and its line buffer.
-#[derive(Clone, Copy)]
+#[derive(Clone, Copy, Default)]
 pub struct Options {
     pub keys: Option<Keys>,
     pub trial: Option<Trial>,
@@ -60,18 +52,4 @@ pub enum Statement {
     Change(Call<'static>),
     Ask(Question),
     Write { number: usize },
-}
-
-impl Options {
-    /// No option given.
-    pub fn none() -> Options
-        ensures { result ≡ record { keys = None; trial = None; room = None; cells = None } }
-    {
-        Options {
-            keys: None,
-            trial: None,
-            room: None,
-            cells: None,
-        }
-    }
 }
