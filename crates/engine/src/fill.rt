@@ -39,7 +39,7 @@ fn onward<M: Measure>(store: &Store<'_, M>, verdicts: &Verdicts, place: usize, c
     requires { (place < 63) × ((cell < 48) × (48 * (place + 2) ≤ length store.now.cells.now)) }
     ensures { result ≡ sum M.ring (through M.ring (said verdicts.now.words) store.now.cells.now place cell) 48 }
 {
-    let mut total = M::nothing();
+    let mut total = M::NONE;
     let word = verdicts.word(place, cell);
     if word == 0 {
         return total;
@@ -61,7 +61,7 @@ fn over_seam<M: Measure>(verdicts: &Verdicts, goal: usize, place: usize, cell: u
     if verdicts.may(place, cell, goal) {
         M::step(step_size(cell, goal))
     } else {
-        M::nothing()
+        M::NONE
     }
 }
 
@@ -137,7 +137,7 @@ fn weigh_start<M: Measure>(
     ensures value { result ≡ rest M.ring (said verdicts.now.words) start (n - 1) 0 start }
 {
     if verdicts.word(0, start) == 0 {
-        return M::nothing();
+        return M::NONE;
     }
     weigh_from(store, verdicts, start, n)
 }
@@ -149,7 +149,7 @@ pub(crate) fn weigh_all<M: Measure>(store: &mut Store<'_, M>, verdicts: &Verdict
     ensures kept { Kept n store.old.cells.now store.new.cells.now }
     ensures value { result ≡ round M.ring (said verdicts.now.words) n }
 {
-    let mut total = M::nothing();
+    let mut total = M::NONE;
     for start in 0..CELLS {
         total = total.join(weigh_start(store, verdicts, start, n));
     }

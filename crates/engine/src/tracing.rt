@@ -85,7 +85,7 @@ fn trace<M: Choosing>(
     ensures beyond { drop n line.new ≡ drop n line.old }
 {
     let mut cell = start;
-    let mut prefix = M::unit();
+    let mut prefix = M::ONE;
     line[0] = start as u8;
     for place in 0..n - 1 {
         let next = next_best(store, verdicts, start, n, place, cell, prefix, total);
@@ -109,7 +109,7 @@ fn trace_first<M: Choosing>(
     ensures line { line.new ≡ written (first_best M.ring M.picks n (roster (said verdicts.now.words) n)) line.old }
 {
     let total: M = weigh_all(store, verdicts, n);
-    if M::nothing().chooses(total) {
+    if M::NONE.chooses(total) {
         return false;
     }
     let start = best_start(store, verdicts, n, total);

@@ -9,10 +9,10 @@ pub returns-then-word-eq0 : goal.returns-then-word-eq0
 returns-then-word-eq0 g c =
     let words = c.args.verdicts.now.words in
     let shut : (d : ℕ) → d < 48 → said words c.args.place c.args.cell d ≡ false = λ d h. said_nothing words c.args.place c.args.cell d (omega arith) (omega arith) h (sym c.word-word.ensures ∙ c.if-word-eq0.true) in
-    c.nothing-total.ensures ∙ sym (through_none g.M.Measure.ring (said words) c.args.store.now.cells.now c.args.place c.args.cell shut)
+    c.NONE-total.ensures ∙ g.met.M.Measure.none_of_ring ∙ sym (through_none g.M.Measure.ring (said words) c.args.store.now.cells.now c.args.place c.args.cell shut)
 
 pub loop-next-init : goal.loop-next-init
-loop-next-init g c = c.nothing-total.ensures ∙ sym (sum_none g.M.Measure.ring _)
+loop-next-init g c = c.NONE-total.ensures ∙ g.met.M.Measure.none_of_ring ∙ sym (sum_none g.M.Measure.ring _)
 
 pub loop-next-preserved : goal.loop-next-preserved
 loop-next-preserved g c =

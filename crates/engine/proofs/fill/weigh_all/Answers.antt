@@ -6,7 +6,7 @@ use Rattle.engine.proofs.Rests.{sum_more, sum_none}
 use Rattle.engine.proofs.fill.weigh_all.Goals as goal
 
 pub loop-start-init : goal.loop-start-init
-loop-start-init g c = (refl, (refl, refl), c.nothing-total.ensures ∙ sym (sum_none g.M.Measure.ring _))
+loop-start-init g c = (refl, (refl, refl), c.NONE-total.ensures ∙ g.met.M.Measure.none_of_ring ∙ sym (sum_none g.M.Measure.ring _))
 
 pub loop-start-preserved : goal.loop-start-preserved
 loop-start-preserved g c =

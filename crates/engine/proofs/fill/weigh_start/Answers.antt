@@ -12,5 +12,5 @@ returns-then-word-eq0 g c =
     record {
       lender = refl;
       kept = (refl, refl);
-      value = c.nothing.ensures ∙ sym (rest_none g.M.Measure.ring (said words) start (c.args.n - 1) 0 start (omega arith) shut);
+      value = c.NONE.ensures ∙ g.met.M.Measure.none_of_ring ∙ sym (rest_none g.M.Measure.ring (said words) start (c.args.n - 1) 0 start (omega arith) shut);
     }

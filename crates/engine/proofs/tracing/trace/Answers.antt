@@ -12,7 +12,7 @@ loop-place-init g c =
     let way = said c.args.verdicts.now.words in
     let laws = g.met.M.Choosing in
     let begun = traced_start R picks laws.either laws.former way c.args.start c.args.n c.args.total c.requires.some c.args.line.now (omega arith) c.requires.attained in
-    (omega arith, refl, subst (λ p. Traced R picks way c.args.start c.args.n c.args.total 0 c.args.start p (set c.args.line.now 0 c.args.start)) (sym c.unit-prefix.ensures) begun)
+    (omega arith, refl, subst (λ p. Traced R picks way c.args.start c.args.n c.args.total 0 c.args.start p (set c.args.line.now 0 c.args.start)) (sym (c.ONE-prefix.ensures ∙ g.met.M.Measure.one_of_ring)) begun)
 
 pub then_step-prefix-requires : goal.then_step-prefix-requires
 then_step-prefix-requires g c =

@@ -12,7 +12,7 @@ returns-then-chooses g c =
     let picks = g.M.Choosing.picks in
     let laws = g.met.M.Choosing in
     let total = c.weigh_all-total.result in
-    let gone : picks R.none total ≡ true = ap (λ x. picks x total) (sym c.nothing.ensures) ∙ sym c.chooses.ensures ∙ c.if-chooses.true in
+    let gone : picks R.none total ≡ true = ap (λ x. picks x total) (sym (c.NONE.ensures ∙ g.met.M.Measure.none_of_ring)) ∙ sym c.chooses.ensures ∙ c.if-chooses.true in
     let none = none_best R picks laws.either laws.former (said c.args.verdicts.now.words) laws.lasting c.args.n total (omega arith) (omega arith) c.weigh_all-total.ensures.value gone in
     record {
       lender = c.weigh_all-total.ensures.lender;
@@ -30,7 +30,7 @@ trace-requires g c =
     let total = c.weigh_all-total.result in
     let start = c.best_start-start.result in
     let found = c.best_start-start.ensures in
-    let some : picks R.none total ≡ false = ap (λ x. picks x total) (sym c.nothing.ensures) ∙ sym c.chooses.ensures ∙ c.if-chooses.false in
+    let some : picks R.none total ≡ false = ap (λ x. picks x total) (sym (c.NONE.ensures ∙ g.met.M.Measure.none_of_ring)) ∙ sym c.chooses.ensures ∙ c.if-chooses.false in
     let small = start_small R picks laws.either laws.former way c.args.n total (omega arith) c.weigh_all-total.ensures.value some start (omega arith) found.before in
     record {
       bounds = (omega arith, (omega arith, (small, (omega arith, omega arith))));
@@ -48,7 +48,7 @@ returns g c =
     let total = c.weigh_all-total.result in
     let start = c.best_start-start.result in
     let found = c.best_start-start.ensures in
-    let some : picks R.none total ≡ false = ap (λ x. picks x total) (sym c.nothing.ensures) ∙ sym c.chooses.ensures ∙ c.if-chooses.false in
+    let some : picks R.none total ≡ false = ap (λ x. picks x total) (sym (c.NONE.ensures ∙ g.met.M.Measure.none_of_ring)) ∙ sym c.chooses.ensures ∙ c.if-chooses.false in
     let small = start_small R picks laws.either laws.former way c.args.n total (omega arith) c.weigh_all-total.ensures.value some start (omega arith) found.before in
     let is = first_best_from R picks laws.either laws.former way c.args.n total (omega arith) c.weigh_all-total.ensures.value some start small found.before (found.found small) ∙ c.trace.ensures.line in
     record {
