@@ -1,10 +1,9 @@
 -- A store that is filled cell by cell, from the last place back. Assumes nothing.
-use Rattle.std.proofs.Common.{◌≡◌, ℕ, ◌+◌, ◌-◌, ◌*◌, ◌<◌, ◌≤◌, List, length, get_or, set, sym, ap, ◌∙◌, subst, ⊎_elim, arith, length-set, get_or-set_other, get_or-set_same, below_more}
-use Rattle.std.proofs.lemmas.List.{drop-set-lt}
+use Rattle.std.proofs.Common.{◌≡◌, ℕ, ◌+◌, ◌-◌, ◌*◌, ◌<◌, ◌≤◌, List, length, get_or, set, sym, ap, ◌∙◌, subst, ⊎_elim, arith, get_or-set_other, get_or-set_same, below_more}
 use Rattle.std.proofs.lemmas.Bool.{cases_eq}
 use Rattle.measure.specs.Algebra.{Ring}
 use Rattle.engine.specs.Lines.{Way}
-use Rattle.engine.specs.Tables.{Begun, Filled, Kept, rest}
+use Rattle.engine.specs.Tables.{Begun, Filled, rest}
 
 module _ {M : Type 0} (R : Ring M) (way : Way) (goal n : ℕ) where
   -- one cell more of a place
@@ -19,18 +18,10 @@ module _ {M : Type 0} (R : Ring M) (way : Way) (goal n : ℕ) where
   filled_set t c cells v hc before s from below d hd =
       get_or-set_other cells (48 * t + c) (48 * s + d) v R.none (omega arith) ∙ before s from below d hd
 
-  -- and so does what lies beyond
-  pub kept_set : (t c : ℕ) (before cells : List M) (v : M) → t < n → c < 48 → Kept n before cells → Kept n before (set cells (48 * t + c) v)
-  kept_set t c before cells v ht hc kept =
-      (length-set cells (48 * t + c) v ∙ kept.0, drop-set-lt (48 * n) cells (48 * t + c) v (omega arith) ∙ kept.1)
-
   -- a whole place more
   pub filled_place : (t : ℕ) (cells : List M) → Filled R way goal n (t + 1) cells → Begun R way goal n t 48 cells → Filled R way goal n t cells
   filled_place t cells after here s from below =
       ⊎_elim (λ e. subst (λ p. Begun R way goal n p 48 cells) (sym e) here) (λ ne. after s (omega arith) below) (cases_eq s t)
-
-pub kept_kept : {M : Type 0} (n : ℕ) (first second third : List M) → Kept n first second → Kept n second third → Kept n first third
-kept_kept n first second third a b = (b.0 ∙ a.0, b.1 ∙ a.1)
 
 -- a store that is filled throughout has all that a start cell's lines come to at its first place
 pub filled_start : {M : Type 0} (R : Ring M) (way : Way) (goal n c : ℕ) (cells : List M) → 0 < n → c < 48 → Filled R way goal n 0 cells → get_or cells c R.none ≡ rest R way goal (n - 1) 0 c
