@@ -2,8 +2,8 @@
 // Knows nothing of why a hop is let through, and of measures only their laws.
 ghost use Rattle.std.specs.Prelude.{◌≡◌, ◌+◌, ◌-◌, ◌*◌, ◌<◌, ◌≤◌, length};
 ghost use Rattle.engine.specs.Lines.{leap};
-ghost use Rattle.engine.specs.Tables.{Filled, crossing, rest, round};
-ghost use Rattle.engine.specs.Ways.{way_of};
+ghost use Rattle.engine.specs.Tables.{Filled, crossing, round};
+ghost use Rattle.engine.specs.Ways.{lines_from, rest_from, way_of};
 
 use crate::passage::Passage;
 use crate::roster::Roster;
@@ -11,35 +11,19 @@ use crate::store::Store;
 use crate::verdicts::{CELLS, says};
 use measure::algebra::Measure;
 
-/// How far the keys of two cells are apart.
-pub(crate) fn step_size(cell: usize, next: usize) -> u8
+/// The step between two cells.
+pub(crate) fn step_between<M: Measure>(cell: usize, next: usize) -> M
     requires { (cell < 48) × (next < 48) }
-    ensures { result ≡ leap cell next }
+    ensures { result ≡ M.ring.step (leap cell next) }
 {
-    (cell / 2).abs_diff(next / 2) as u8
-}
-
-/// A step between two cells, and what comes after it.
-pub(crate) fn step_then<M: Measure>(cell: usize, next: usize, after: M) -> M
-    requires { (cell < 48) × (next < 48) }
-    ensures { result ≡ M.ring.chain (M.ring.step (leap cell next)) after }
-{
-    M::step(step_size(cell, next)).chain(after)
-}
-
-/// What comes before, and a step between two cells.
-pub(crate) fn then_step<M: Measure>(before: M, cell: usize, next: usize) -> M
-    requires { (cell < 48) × (next < 48) }
-    ensures { result ≡ M.ring.chain before (M.ring.step (leap cell next)) }
-{
-    before.chain(M::step(step_size(cell, next)))
+    M::step((cell / 2).abs_diff(next / 2) as u8)
 }
 
 impl<M: Measure> Store<'_, M> {
     /// All ways on from a cell that is not at the last place, the place after it being filled.
     fn onward(&self, place: usize, cell: usize) -> M
         requires { (self.now.from ≤ place + 1) × ((place + 1 < self.now.roster.now.places) × (cell < 48)) }
-        ensures { result ≡ rest M.ring (way_of self.now.roster.now) self.now.goal (self.now.roster.now.places - 1 - place) place cell }
+        ensures { result ≡ rest_from M.ring self.now.roster.now self.now.goal place cell }
     {
         let mut total = M::NONE;
         let word = self.roster.verdicts.word(place, cell);
@@ -48,7 +32,8 @@ impl<M: Measure> Store<'_, M> {
         }
         for next in 0..CELLS {
             if says(word, next) {
-                total = total.join(step_then(cell, next, self.get(place + 1, next)));
+                let after = self.get(place + 1, next);
+                total = total.join(step_between::<M>(cell, next).chain(after));
             }
         }
         total
@@ -60,7 +45,7 @@ impl<M: Measure> Store<'_, M> {
         ensures { result ≡ crossing M.ring (way_of self.now.roster.now) place cell self.now.goal }
     {
         if self.roster.verdicts.may(place, cell, self.goal) {
-            M::step(step_size(cell, self.goal))
+            step_between(cell, self.goal)
         } else {
             M::NONE
         }
@@ -69,7 +54,7 @@ impl<M: Measure> Store<'_, M> {
     /// All ways on from a cell, the places after it being filled.
     fn value(&self, place: usize, cell: usize) -> M
         requires { (self.now.from ≤ place + 1) × ((place < self.now.roster.now.places) × (cell < 48)) }
-        ensures { result ≡ rest M.ring (way_of self.now.roster.now) self.now.goal (self.now.roster.now.places - 1 - place) place cell }
+        ensures { result ≡ rest_from M.ring self.now.roster.now self.now.goal place cell }
     {
         if place + 1 < self.roster.places {
             self.onward(place, cell)
@@ -102,7 +87,7 @@ impl Roster {
     pub(crate) fn fill<M: Measure>(&self, cells: &mut [M], start: usize) -> M
         requires { (start < 48) × (length cells.old ≡ 48 * self.now.places) }
         ensures filled { Filled M.ring (way_of self.now) start self.now.places 0 cells.new }
-        ensures value { result ≡ rest M.ring (way_of self.now) start (self.now.places - 1) 0 start }
+        ensures value { result ≡ lines_from M.ring self.now start }
     {
         for place in (0..self.places).rev() {
             self.fill_place(cells, start, place);
@@ -113,7 +98,7 @@ impl Roster {
     /// What a start cell's lines come to, with no filling where no cell may follow it.
     fn weigh_start<M: Measure>(&self, cells: &mut [M], start: usize) -> M
         requires { (start < 48) × (length cells.old ≡ 48 * self.now.places) }
-        ensures { result ≡ rest M.ring (way_of self.now) start (self.now.places - 1) 0 start }
+        ensures { result ≡ lines_from M.ring self.now start }
     {
         if self.verdicts.word(0, start) == 0 {
             return M::NONE;

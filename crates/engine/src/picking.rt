@@ -113,6 +113,7 @@ fn pick_line<P: Passage>(
 /// Writes the line of `n` cells that goes round and has the number `k`, counted from 0 in order, and says
 /// whether there is one. Refuses where there are not 1 to 64 places, not 48 values of memory for each, not
 /// `n` cells in the line buffer, or where the number is over 999,999,999.
+// A bool and no Option, as the line itself stands in the buffer.
 pub fn pick<P: Passage>(
     passage: &P,
     n: usize,

@@ -1,8 +1,8 @@
 // Working memory: a value for each place and cell, over a lent slice.
 // Knows nothing of why a hop is let through, and of measures only their laws.
-ghost use Rattle.std.specs.Prelude.{◌≡◌, ◌-◌, ◌*◌, ◌<◌, ◌≤◌, length};
-ghost use Rattle.engine.specs.Tables.{Filled, rest};
-ghost use Rattle.engine.specs.Ways.{way_of};
+ghost use Rattle.std.specs.Prelude.{◌≡◌, ◌*◌, ◌<◌, ◌≤◌, length};
+ghost use Rattle.engine.specs.Tables.{Filled};
+ghost use Rattle.engine.specs.Ways.{rest_from, way_of};
 
 use crate::roster::Roster;
 use crate::verdicts::CELLS;
@@ -25,7 +25,7 @@ impl<M: Measure> Store<'_, M> {
     /// What all ways on from a cell come to, at a place that is filled.
     pub(crate) fn get(&self, place: usize, cell: usize) -> M
         requires { (self.now.from ≤ place) × ((place < self.now.roster.now.places) × (cell < 48)) }
-        ensures { result ≡ rest M.ring (way_of self.now.roster.now) self.now.goal (self.now.roster.now.places - 1 - place) place cell }
+        ensures { result ≡ rest_from M.ring self.now.roster.now self.now.goal place cell }
     {
         self.cells[CELLS * place + cell]
     }

@@ -3,13 +3,13 @@
 ghost use Rattle.std.specs.Prelude.{◌≡◌, ◌+◌, ◌-◌, ◌*◌, ◌<◌, ◌≤◌, false, length, drop, is_some, is_ok, Some, IfSome};
 ghost use Rattle.engine.specs.Answers.{first_no, line_questions, unless, unless_written, written};
 ghost use Rattle.engine.specs.Lines.{roster};
-ghost use Rattle.engine.specs.Tables.{Filled, rest};
+ghost use Rattle.engine.specs.Tables.{Filled};
 ghost use Rattle.engine.specs.Tails.{attains, best_from};
 ghost use Rattle.engine.specs.Turns.{IsFirst};
-ghost use Rattle.engine.specs.Ways.{way_of};
+ghost use Rattle.engine.specs.Ways.{lines_from, way_of};
 ghost use Rattle.engine.specs.Weights.{first_best};
 
-use crate::fill::then_step;
+use crate::fill::step_between;
 use crate::fit::line_for;
 use crate::passage::Passage;
 use crate::roster::Roster;
@@ -26,7 +26,8 @@ impl<M: Choosing> Store<'_, M> {
     {
         for next in 0..CELLS {
             if self.roster.verdicts.may(place, cell, next) {
-                let weight = then_step(prefix, cell, next).chain(self.get(place + 1, next));
+                let after = self.get(place + 1, next);
+                let weight = prefix.chain(step_between(cell, next)).chain(after);
                 if weight.chooses(total) {
                     return Some(next);
                 }
@@ -39,7 +40,7 @@ impl<M: Choosing> Store<'_, M> {
     fn trace(&self, total: M, line: &mut [u8])
         requires bounds { (self.now.from ≡ 0) × (length line.old ≡ self.now.roster.now.places) }
         requires some { M.picks M.ring.none total ≡ false }
-        requires attained { rest M.ring (way_of self.now.roster.now) self.now.goal (self.now.roster.now.places - 1) 0 self.now.goal ≡ total }
+        requires attained { lines_from M.ring self.now.roster.now self.now.goal ≡ total }
         ensures { best_from M.ring M.picks (way_of self.now.roster.now) (self.now.roster.now.places - 1) total self.now.goal ≡ Some line.new }
     {
         let mut cell = self.goal;
@@ -48,7 +49,7 @@ impl<M: Choosing> Store<'_, M> {
         for place in 0..self.roster.places - 1 {
             let next = self.next_best(place, cell, prefix, total).unwrap();
             line[place + 1] = next as u8;
-            prefix = then_step(prefix, cell, next);
+            prefix = prefix.chain(step_between(cell, next));
             cell = next;
         }
     }
@@ -58,7 +59,7 @@ impl Roster {
     /// The first start cell whose lines come to the total, for which the cells are then filled.
     fn best_start<M: Choosing>(&self, cells: &mut [M], total: M) -> Option<usize>
         requires { length cells.old ≡ 48 * self.now.places }
-        ensures start { IsFirst (λ c. M.picks (rest M.ring (way_of self.now) c (self.now.places - 1) 0 c) total) result }
+        ensures start { IsFirst (λ c. M.picks (lines_from M.ring self.now c) total) result }
         ensures filled { IfSome result (λ start. Filled M.ring (way_of self.now) start self.now.places 0 cells.new) }
     {
         for start in 0..CELLS {
@@ -103,6 +104,7 @@ fn first_line<M: Choosing, P: Passage>(
 /// Writes the first line of `n` cells that goes round and whose weight is the joined weight of all of them,
 /// and says whether there is one. Refuses where there are not 1 to 64 places, not 48 values of memory for
 /// each, or not `n` cells in the line buffer.
+// A bool and no Option, as the line itself stands in the buffer.
 pub fn first<M: Choosing, P: Passage>(
     passage: &P,
     n: usize,

@@ -32,6 +32,7 @@ fn word_of<P: Passage>(passage: &P, place: usize, cell: usize) -> u64
 fn words_at<P: Passage>(passage: &P, place: usize) -> [u64; CELLS]
     ensures { (c d : ℕ) → c < 48 → d < 48 → bit (slice_index result c) d ≡ P.way passage.now place c d }
 {
+    // a loop, as std has no lemma for what `array::from_fn` gives
     let mut words = [0; CELLS];
     for cell in 0..CELLS {
         words[cell] = word_of(passage, place, cell);
@@ -52,6 +53,7 @@ impl Verdicts {
     pub fn of<P: Passage>(passage: &P, places: usize) -> Verdicts
         ensures { (t c d : ℕ) → said result.words t c d ≡ ((nat_lt t places && inside t c d) && P.way passage.now t c d) }
     {
+        // by index, as no element is known after `iter_mut`
         let mut words = [[0; CELLS]; PLACES];
         for place in 0..places.min(PLACES) {
             words[place] = words_at(passage, place);

@@ -1,4 +1,4 @@
-use Rattle.std.proofs.Common.{◌+◌, set, sym, subst, ◌∙◌, arith, length-set}
+use Rattle.std.proofs.Common.{◌+◌, set, sym, ap, subst, ◌∙◌, arith, length-set}
 use Rattle.std.proofs.lemmas.Option.{MatchOption-at_some}
 use Rattle.engine.specs.Turns.{Leads}
 use Rattle.engine.specs.Ways.{way_of}
@@ -35,7 +35,7 @@ loop-place-preserved g c =
     let next = c.unwrap-next.result in
     let leads : Leads _ next = MatchOption-at_some _ (Leads _) next c.unwrap-next.ensures c.next_best.ensures in
     let stepped = traced_step R picks laws.either laws.former (way_of roster) store.goal roster.places c.args.total c.requires.some here.place here.cell next here.prefix here.line (omega arith) (omega arith) here.invariant.1 leads in
-    (leads.small, subst (λ p. Traced R picks (way_of roster) store.goal roster.places c.args.total (here.place + 1) next p (set here.line (here.place + 1) next)) (sym c.then_step-prefix.ensures) stepped)
+    (leads.small, subst (λ p. Traced R picks (way_of roster) store.goal roster.places c.args.total (here.place + 1) next p (set here.line (here.place + 1) next)) (sym (c.chain-prefix.ensures ∙ ap (R.chain here.prefix) c.step_between.ensures)) stepped)
 
 pub returns : goal.returns
 returns g c =
