@@ -1,5 +1,6 @@
 -- The first line of the total weight, found place by place. Assumes nothing.
 use Rattle.std.proofs.Common.{◌≡◌, ℕ, zero, suc, ◌+◌, ◌-◌, ◌<◌, ◌≤◌, Bool, true, false, cond, ◌&&◌, List, [], ◌∷◌, ◌++◌, map, length, take, set, is_some, Some, None, Option, sym, refl, ap, ◌∙◌, subst, ap₂, ⊎_elim, arith}
+use mathlib.Core.List.{map-map}
 use mathlib.Core.Path.{fun_ext}
 use Rattle.std.proofs.ByRecursion.{All-weaker}
 use Rattle.std.proofs.lemmas.List.{append_assoc, append-nil, take_all, take_more_set}
@@ -13,7 +14,6 @@ use Rattle.engine.specs.Tails.{attains, begun_by, best_from, line_worth, tails, 
 use Rattle.engine.specs.Turns.{IsFirst, Leads}
 use Rattle.engine.specs.Weights.{first_best, first_with, joined_weight, steps, weight}
 use Rattle.engine.proofs.Firsts.{first_with_cong, first_with_map, first_with_spread, is_some_mapped, mapped_mapped, none_from}
-use Rattle.engine.proofs.Lists.{map_map}
 use Rattle.engine.proofs.Picks.{attained, join_same, picks_from, same_from_picks, sum_attained, sum_under}
 use Rattle.engine.proofs.Rests.{crossing_open, crossing_shut, none_join}
 use Rattle.engine.proofs.Rosters.{Sound, roster_sound, roster_tails}
@@ -136,7 +136,7 @@ module _ {M : Type 0} (R : Ring M) (picks : M → M → Bool) (either : (x y : M
       ∙ ap (λ q. option_map (λ ds. start ∷ ds) (first_with q (tails way start k 0 start))) (fun_ext (λ ds. ap (λ x. picks x total) (sym (R.one_chain (worth R start start ds)))))
 
   joined_begun : (k c : ℕ) → joined R (map (line_worth R) (begun_by way k c)) ≡ rest R way c k 0 c
-  joined_begun k c = ap (joined R) (map_map (line_worth R) (λ ds. c ∷ ds) (tails way c k 0 c)) ∙ joined_tails R way c k 0 c
+  joined_begun k c = ap (joined R) (map-map (line_worth R) (λ ds. c ∷ ds) (tails way c k 0 c)) ∙ joined_tails R way c k 0 c
 
   module _ (n : ℕ) (total : M) (most : 0 < n) (is : total ≡ round R way n) (some : picks R.none total ≡ false) where
     abbrev from : ℕ → M

@@ -12,6 +12,7 @@ pub trait Measure: Copy {
     /// Chains with any value on either side and alters nothing.
     const ONE: Self;
 
+    // the constants' values in proofs, which the two laws below tie to the ring's
     ghost NONE: { Self };
 
     ghost ONE: { Self };
