@@ -1,5 +1,3 @@
-pub mod Buffers
-pub mod Fillings
 pub mod Firsts
 pub mod Lists
 pub mod Numberings

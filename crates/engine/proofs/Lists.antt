@@ -1,9 +1,10 @@
 -- Lists that are filtered, mapped and spread. Assumes nothing.
 use Rattle.std.proofs.Common.{◌≡◌, ℕ, zero, suc, ◌+◌, ◌<◌, Bool, true, false, cond, ◌&&◌, List, [], ◌∷◌, ◌++◌, map, length, filter, sym, refl, ap, ◌∙◌, ap₂, add-one, arith}
 use mathlib.Core.Path.{fun_ext}
+use Rattle.std.proofs.lemmas.Grind.{flat_map-append}
 use Rattle.std.proofs.lemmas.List.Elements.{filter-append}
 use Rattle.std.proofs.ByRecursion.{All-append, All-push, All-weaker}
-use Rattle.std.proofs.lemmas.List.{append_assoc, append-nil, length-append, map-append}
+use Rattle.std.proofs.lemmas.List.{append-nil, length-append, map-append}
 use Rattle.std.specs.List.{flat_map as spread, AllByRecursion}
 use Rattle.engine.specs.Lines.{every, upto}
 
@@ -34,10 +35,6 @@ module _ {X : Type 0} where
   map_cong f g [] same = refl
   map_cong f g (x ∷ xs) same = ap₂ ◌∷◌ same.0 (map_cong f g xs same.1)
 
-  pub map_map : {Y Z : Type 0} (f : Y → Z) (g : X → Y) (xs : List X) → map f (map g xs) ≡ map (λ x. f (g x)) xs
-  map_map f g [] = refl
-  map_map f g (x ∷ xs) = ap (λ ys. f (g x) ∷ ys) (map_map f g xs)
-
   pub every_cong : (p q : X → Bool) (xs : List X) → AllByRecursion (λ x. p x ≡ q x) xs → every p xs ≡ every q xs
   every_cong p q [] same = refl
   every_cong p q (x ∷ xs) same = ap₂ ◌&&◌ same.0 (every_cong p q xs same.1)
@@ -47,10 +44,6 @@ module _ {X : Type 0} where
   every_map p g (y ∷ ys) = ap (λ b. p (g y) && b) (every_map p g ys)
 
 module _ {X Y : Type 0} where
-  pub spread-++ : (f : X → List Y) (xs ys : List X) → spread f (xs ++ ys) ≡ spread f xs ++ spread f ys
-  spread-++ f [] ys = refl
-  spread-++ f (x ∷ xs) ys = ap (λ zs. f x ++ zs) (spread-++ f xs ys) ∙ sym (append_assoc (f x) (spread f xs) (spread f ys))
-
   pub spread_cong : (f g : X → List Y) (xs : List X) → ((x : X) → f x ≡ g x) → spread f xs ≡ spread g xs
   spread_cong f g xs same = ap (λ h. spread h xs) (fun_ext same)
 
@@ -65,7 +58,7 @@ module _ {X Y : Type 0} where
 
 -- one number more is spread
 pub spread_more : {Y : Type 0} (f : ℕ → List Y) (n : ℕ) → spread f (upto (suc n)) ≡ spread f (upto n) ++ f n
-spread_more f n = spread-++ f (upto n) (n ∷ []) ∙ ap (λ zs. spread f (upto n) ++ zs) (append-nil (f n))
+spread_more f n = flat_map-append f (upto n) (n ∷ []) ∙ ap (λ zs. spread f (upto n) ++ zs) (append-nil (f n))
 
 -- the numbers below n are below n
 pub all_upto : (n : ℕ) → AllByRecursion (λ c. c < n) (upto n)

@@ -1,28 +1,25 @@
 -- The line with a number, found place by place by how many lines there are. Assumes nothing.
-use Rattle.std.proofs.Common.{◌≡◌, ℕ, zero, suc, ◌+◌, ◌-◌, ◌*◌, ◌<◌, ◌≤◌, Bool, true, false, cond, List, [], ◌∷◌, ◌++◌, map, length, get_or, take, set, is_some, Some, None, sym, refl, ap, ◌∙◌, subst, ap₂, ⊎_elim, le_of_suc-le-suc, arith}
+use Rattle.std.proofs.Common.{◌≡◌, ℕ, zero, suc, ◌+◌, ◌-◌, ◌<◌, ◌≤◌, Bool, true, false, cond, List, [], ◌∷◌, ◌++◌, map, length, take, set, Some, None, Option, sym, refl, ap, ◌∙◌, subst, ap₂, ⊎_elim, le_of_suc-le-suc, arith}
 use mathlib.Core.Path.{fun_ext}
-use Rattle.std.proofs.lemmas.List.{append_assoc, append-nil, length-append, length-map, take_more_set}
-use Rattle.std.proofs.lemmas.Option.{slice_get_past}
-use Rattle.std.proofs.lemmas.Bool.{cases_Bool, cases_eq, cases_lt}
-use Rattle.std.specs.Option.{option_map}
+use Rattle.std.proofs.lemmas.List.{append_assoc, append-nil, length-append, length-map, take_all, take_more_set}
+use Rattle.std.proofs.lemmas.Option.{slice_get-map, slice_get_past}
+use Rattle.std.proofs.lemmas.Bool.{cases_Bool, cases_eq}
+use Rattle.std.specs.Option.{IsSome, option_map}
 use Rattle.std.specs.List.{flat_map as spread, slice_get}
 use Rattle.measure.specs.Algebra.{joined}
 use Rattle.measure.specs.Numbers.{cap, many, number_ring, same_number}
 use Rattle.measure.specs.declared.number.Number.{Number}
 use Rattle.engine.specs.Lines.{Way, roster, upto}
-use Rattle.engine.specs.Tables.{Filled, rest}
+use Rattle.engine.specs.Tables.{rest}
 use Rattle.engine.specs.Tails.{begun_by, by_cell, passed, tails, worth}
+use Rattle.engine.specs.Turns.{Holds, IsTurn}
+use Rattle.engine.specs.declared.picking.Turn.{Turn}
 use Rattle.engine.proofs.Firsts.{mapped_mapped}
 use Rattle.engine.proofs.Lists.{spread_more}
 use Rattle.engine.proofs.Rosters.{roster_tails}
 use Rattle.engine.proofs.Totals.{joined_tails}
 
 module _ {A : Type 0} where
-  pub nth_map : {B : Type 0} (g : A → B) (xs : List A) (i : ℕ) → slice_get (map g xs) i ≡ option_map g (slice_get xs i)
-  nth_map g [] i = refl
-  nth_map g (x ∷ xs) zero = refl
-  nth_map g (x ∷ xs) (suc i) = nth_map g xs i
-
   nth_left : (xs ys : List A) (i : ℕ) → i < length xs → slice_get (xs ++ ys) i ≡ slice_get xs i
   nth_left [] ys i h = absurd (omega arith)
   nth_left (x ∷ xs) ys zero h = refl
@@ -31,11 +28,6 @@ module _ {A : Type 0} where
   nth_right : (xs ys : List A) (i : ℕ) → slice_get (xs ++ ys) (length xs + i) ≡ slice_get ys i
   nth_right [] ys i = let e : 0 + i ≡ i = omega arith in ap (slice_get ys) e
   nth_right (x ∷ xs) ys i = let e : suc (length xs) + i ≡ suc (length xs + i) = omega arith in ap (slice_get (x ∷ xs ++ ys)) e ∙ nth_right xs ys i
-
-  pub is_some_nth : (xs : List A) (i : ℕ) → i < length xs → is_some (slice_get xs i) ≡ true
-  is_some_nth [] i h = absurd (omega arith)
-  is_some_nth (x ∷ xs) zero h = refl
-  is_some_nth (x ∷ xs) (suc i) h = is_some_nth xs i (le_of_suc-le-suc h)
 
 module _ (f : ℕ → List (List ℕ)) where
   -- the lists of one more number are passed
@@ -109,7 +101,7 @@ module _ (way : Way) (goal k t c : ℕ) where
   nth_step d i small h =
       nth_spread (by_cell way goal k t c) 48 d i small h
       ∙ ap (λ b. slice_get (cond b (map (λ ds. d ∷ ds) (tails way goal k (t + 1) d)) []) i) (by_open d i h)
-      ∙ nth_map (λ ds. d ∷ ds) (tails way goal k (t + 1) d) i
+      ∙ slice_get-map (λ ds. d ∷ ds) (tails way goal k (t + 1) d) i
 
 -- at the last place only the seam is left
 only_empty : (b : Bool) (ls : List (List ℕ)) (i : ℕ) → ls ≡ cond b ([] ∷ []) [] → i < length ls → slice_get ls i ≡ Some []
@@ -135,37 +127,40 @@ module _ (way : Way) (goal n k : ℕ) where
       let front : take (0 + 1) (set line 0 goal) ≡ goal ∷ [] = take_more_set line 0 goal room in
       let size = length-map (tails way goal (n - 1) 0 goal) (λ ds. goal ∷ ds) in (
         subst (λ j. k < length (tails way goal j 0 goal)) left (omega arith),
-        nth_map (λ ds. goal ∷ ds) (tails way goal (n - 1) 0 goal) k ∙ ap₂ (λ xs j. option_map (λ ds. xs ++ ds) (slice_get (tails way goal j 0 goal) k)) (sym front) left,
+        slice_get-map (λ ds. goal ∷ ds) (tails way goal (n - 1) 0 goal) k ∙ ap₂ (λ xs j. option_map (λ ds. xs ++ ds) (slice_get (tails way goal j 0 goal) k)) (sym front) left,
       )
 
-  -- the next cell is not past the last
-  pub turn_small : (t c left d i : ℕ) → t + 1 < n → d ≤ 48 → left < length (tails way goal (n - 1 - t) t c) → left ≡ passed (by_cell way goal (n - 1 - (t + 1)) t c) d + i → d < 48
-  turn_small t c left d i within most small is =
+  -- there is a next cell
+  pub some_turn : (t c left : ℕ) → t + 1 < n → left < length (tails way goal (n - 1 - t) t c) → (found : Option Turn) → IsTurn (by_cell way goal (n - 1 - (t + 1)) t c) left found → IsSome found
+  some_turn t c left within small (Some turn) holds = refl
+  some_turn t c left within small None all =
       let e : n - 1 - t ≡ suc (n - 1 - (t + 1)) = omega arith in
       let size : length (tails way goal (n - 1 - t) t c) ≡ passed (by_cell way goal (n - 1 - (t + 1)) t c) 48 = ap (λ j. length (tails way goal j t c)) e ∙ length_tails way goal (n - 1 - (t + 1)) t c in
-      ⊎_elim (λ h. h) (λ h. absurd (let same : passed (by_cell way goal (n - 1 - (t + 1)) t c) d ≡ passed (by_cell way goal (n - 1 - (t + 1)) t c) 48 = ap (passed (by_cell way goal (n - 1 - (t + 1)) t c)) (let z : d ≡ 48 = omega arith in z) in omega arith)) (cases_lt d 48)
+      absurd (omega (arith, all))
 
-  pub numbered_step : (t c left d i : ℕ) (line : List ℕ) → t + 1 < n → n ≤ length line → d < 48 → Numbered way goal n k t c left line → left ≡ passed (by_cell way goal (n - 1 - (t + 1)) t c) d + i → i < length (by_cell way goal (n - 1 - (t + 1)) t c d) → Numbered way goal n k (t + 1) d i (set line (t + 1) d)
-  numbered_step t c left d i line within room small before is here =
+  pub numbered_step : (t c left : ℕ) (turn : Turn) (line : List ℕ) → t + 1 < n → n ≤ length line → Numbered way goal n k t c left line → Holds (by_cell way goal (n - 1 - (t + 1)) t c) left turn → Numbered way goal n k (t + 1) turn.cell turn.number (set line (t + 1) turn.cell)
+  numbered_step t c left turn line within room before holds =
       let j = n - 1 - (t + 1) in
+      let d = turn.cell in
+      let i = turn.number in
       let e : n - 1 - t ≡ suc j = omega arith in
       let front : take (t + 1 + 1) (set line (t + 1) d) ≡ take (t + 1) line ++ d ∷ [] = take_more_set line (t + 1) d (omega arith) in
       let next = slice_get (tails way goal j (t + 1) d) i in (
-        left_small way goal j t c d i here,
+        left_small way goal j t c d i holds.within,
         before.1
-            ∙ ap₂ (λ m x. option_map (λ ds. take (t + 1) line ++ ds) (slice_get (tails way goal m t c) x)) e is
-            ∙ ap (option_map (λ ds. take (t + 1) line ++ ds)) (nth_step way goal j t c d i small here)
+            ∙ ap₂ (λ m x. option_map (λ ds. take (t + 1) line ++ ds) (slice_get (tails way goal m t c) x)) e holds.counted
+            ∙ ap (option_map (λ ds. take (t + 1) line ++ ds)) (nth_step way goal j t c d i holds.small holds.within)
             ∙ mapped_mapped (λ ds. take (t + 1) line ++ ds) (λ ds. d ∷ ds) next
             ∙ ap (λ g. option_map g next) (fun_ext (λ ds. sym (ap (λ xs. xs ++ ds) front ∙ append_assoc (take (t + 1) line) (d ∷ []) ds))),
       )
 
-  pub numbered_end : (t c left : ℕ) (line : List ℕ) → t + 1 ≡ n → Numbered way goal n k t c left line → slice_get (begun_by way (n - 1) goal) k ≡ Some (take n line)
-  numbered_end t c left line last before =
+  pub numbered_end : (t c left : ℕ) (line : List ℕ) → t + 1 ≡ n → length line ≡ n → Numbered way goal n k t c left line → slice_get (begun_by way (n - 1) goal) k ≡ Some line
+  numbered_end t c left line last room before =
       let e : n - 1 - t ≡ 0 = omega arith in
       before.1
       ∙ ap (λ m. option_map (λ ds. take (t + 1) line ++ ds) (slice_get (tails way goal m t c) left)) e
       ∙ ap (option_map (λ ds. take (t + 1) line ++ ds)) (nth_last way goal t c left (subst (λ m. left < length (tails way goal m t c)) e before.0))
-      ∙ ap Some (append-nil (take (t + 1) line) ∙ ap (λ m. take m line) last)
+      ∙ ap Some (append-nil (take (t + 1) line) ∙ take_all (t + 1) line (omega arith))
 
 -- the roster by its start cells, at a number
 roster_begun : (way : Way) (n : ℕ) → 0 < n → roster way n ≡ spread (begun_by way (n - 1)) (upto 48)
@@ -174,17 +169,12 @@ roster_begun way (suc k) h =
     let e : k ≡ suc k - 1 = omega arith in
     roster_tails way k ∙ ap (λ j. spread (begun_by way j) (upto 48)) e
 
-pub nth_start : (way : Way) (n start i : ℕ) → 0 < n → start < 48 → i < length (begun_by way (n - 1) start) → slice_get (roster way n) (passed (begun_by way (n - 1)) start + i) ≡ slice_get (begun_by way (n - 1) start) i
-nth_start way n start i some small h =
-    ap (λ ls. slice_get ls (passed (begun_by way (n - 1)) start + i)) (roster_begun way n some) ∙ nth_spread (begun_by way (n - 1)) 48 start i small h
+pub nth_start : (way : Way) (n k : ℕ) (turn : Turn) → 0 < n → Holds (begun_by way (n - 1)) k turn → slice_get (roster way n) k ≡ slice_get (begun_by way (n - 1) turn.cell) turn.number
+nth_start way n k turn some holds =
+    ap₂ slice_get (roster_begun way n some) holds.counted ∙ nth_spread (begun_by way (n - 1)) 48 turn.cell turn.number holds.small holds.within
 
 pub nth_beyond : (way : Way) (n k : ℕ) → 0 < n → passed (begun_by way (n - 1)) 48 ≤ k → slice_get (roster way n) k ≡ None
 nth_beyond way n k some h = ap (λ ls. slice_get ls k) (roster_begun way n some) ∙ slice_get_past (spread (begun_by way (n - 1)) (upto 48)) k h
-
--- a filled store counts the lists by which it goes on from the next place
-pub filled_counts : (way : Way) (goal n t d : ℕ) (cells : List Number) → t + 1 < n → d < 48 → Filled number_ring way goal n 0 cells → (get_or cells (48 * (t + 1) + d) (many 0)).value ≡ cap (length (tails way goal (n - 1 - (t + 1)) (t + 1) d))
-filled_counts way goal n t d cells within small filled =
-    ap (λ x. x.value) (filled (t + 1) (omega arith) within d small) ∙ rest_counts way goal (n - 1 - (t + 1)) (t + 1) d
 
 -- what a start cell's lines come to counts them
 pub begun_counts : (way : Way) (k c : ℕ) → (rest number_ring way c k 0 c).value ≡ cap (length (begun_by way k c))

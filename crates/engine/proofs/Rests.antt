@@ -1,9 +1,9 @@
 -- Sums over cells and the rests of ways, step by step. Assumes nothing.
-use Rattle.std.proofs.Common.{◌≡◌, ℕ, zero, suc, ◌+◌, ◌-◌, ◌*◌, ◌<◌, true, false, List, get_or, sym, refl, ap, ◌∙◌, ap₂, add-one, arith}
+use Rattle.std.proofs.Common.{◌≡◌, ℕ, zero, suc, ◌+◌, ◌-◌, ◌<◌, true, false, refl, ap, ◌∙◌, ap₂, add-one, arith}
 use Rattle.std.proofs.lemmas.Bool.{cond-false, cond-true}
 use Rattle.measure.specs.Algebra.{Ring}
 use Rattle.engine.specs.Lines.{Way, leap}
-use Rattle.engine.specs.Tables.{Filled, crossing, rest, sum, through}
+use Rattle.engine.specs.Tables.{crossing, rest, sum}
 
 module _ {M : Type 0} (R : Ring M) where
   -- none joined in on the other side
@@ -40,21 +40,20 @@ module _ {M : Type 0} (R : Ring M) where
   rest_onward way goal n t c h =
       let e : n - 1 - t ≡ suc (n - 1 - (t + 1)) = omega arith in ap (λ k. rest R way goal k t c) e
 
-  -- a table filled from the next place on gives the rests at this one
-  pub rest_through : (way : Way) (goal n t c : ℕ) (cells : List M) → t + 1 < n → Filled R way goal n (t + 1) cells → sum R (through R way cells t c) 48 ≡ rest R way goal (n - 1 - t) t c
-  rest_through way goal n t c cells h filled =
-      sum_cong (through R way cells t c) _ 48 (λ d l. ap (R.chain (crossing R way t c d)) (filled (t + 1) (omega arith) h d l)) ∙ sym (rest_onward way goal n t c h)
+  -- what goes on from a cell by each next one
+  abbrev pub by_next : Way → ℕ → ℕ → ℕ → ℕ → ℕ → M
+  by_next way goal n t c d = R.chain (crossing R way t c d) (rest R way goal (n - 1 - (t + 1)) (t + 1) d)
 
   -- one cell more of the next place, let through or not
-  pub sum_open : (way : Way) (cells : List M) (t c d : ℕ) → way t c d ≡ true → sum R (through R way cells t c) (d + 1) ≡ R.join (sum R (through R way cells t c) d) (R.chain (R.step (leap c d)) (get_or cells (48 * (t + 1) + d) R.none))
-  sum_open way cells t c d h =
-      sum_more (through R way cells t c) d ∙ ap (λ x. R.join (sum R (through R way cells t c) d) (R.chain x (get_or cells (48 * (t + 1) + d) R.none))) (crossing_open way t c d h)
+  pub sum_open : (way : Way) (goal n t c d : ℕ) → way t c d ≡ true → sum R (by_next way goal n t c) (d + 1) ≡ R.join (sum R (by_next way goal n t c) d) (R.chain (R.step (leap c d)) (rest R way goal (n - 1 - (t + 1)) (t + 1) d))
+  sum_open way goal n t c d h =
+      sum_more (by_next way goal n t c) d ∙ ap (λ x. R.join (sum R (by_next way goal n t c) d) (R.chain x (rest R way goal (n - 1 - (t + 1)) (t + 1) d))) (crossing_open way t c d h)
 
-  pub sum_shut : (way : Way) (cells : List M) (t c d : ℕ) → way t c d ≡ false → sum R (through R way cells t c) (d + 1) ≡ sum R (through R way cells t c) d
-  sum_shut way cells t c d h =
-      let before = sum R (through R way cells t c) d in
-      let after = get_or cells (48 * (t + 1) + d) R.none in
-      sum_more (through R way cells t c) d ∙ ap (λ x. R.join before (R.chain x after)) (crossing_shut way t c d h) ∙ ap (R.join before) (R.none_chain after) ∙ none_join before
+  pub sum_shut : (way : Way) (goal n t c d : ℕ) → way t c d ≡ false → sum R (by_next way goal n t c) (d + 1) ≡ sum R (by_next way goal n t c) d
+  sum_shut way goal n t c d h =
+      let before = sum R (by_next way goal n t c) d in
+      let after = rest R way goal (n - 1 - (t + 1)) (t + 1) d in
+      sum_more (by_next way goal n t c) d ∙ ap (λ x. R.join before (R.chain x after)) (crossing_shut way t c d h) ∙ ap (R.join before) (R.none_chain after) ∙ none_join before
 
   -- a sum of none is none
   sum_of_none : (f : ℕ → M) (n : ℕ) → ((d : ℕ) → d < n → f d ≡ R.none) → sum R f n ≡ R.none
@@ -63,10 +62,6 @@ module _ {M : Type 0} (R : Ring M) where
   sum_of_none f (suc n) gone = ap₂ R.join (sum_of_none f n (λ d h. gone d (omega arith))) (gone n (omega arith)) ∙ R.join_none R.none
 
   -- where nothing may follow, no way goes on
-  pub through_none : (way : Way) (cells : List M) (t c : ℕ) → ((d : ℕ) → d < 48 → way t c d ≡ false) → sum R (through R way cells t c) 48 ≡ R.none
-  through_none way cells t c shut =
-      sum_of_none (through R way cells t c) 48 (λ d h. ap (λ x. R.chain x (get_or cells (48 * (t + 1) + d) R.none)) (crossing_shut way t c d (shut d h)) ∙ R.none_chain (get_or cells (48 * (t + 1) + d) R.none))
-
   pub rest_none : (way : Way) (goal k t c : ℕ) → goal < 48 → ((d : ℕ) → d < 48 → way t c d ≡ false) → rest R way goal k t c ≡ R.none
   unfolding rest
   rest_none way goal zero t c small shut = crossing_shut way t c goal (shut goal small)

@@ -1,6 +1,7 @@
 -- The roster by start cells and the tails that go on from them. Assumes nothing.
 use Rattle.std.proofs.Common.{◌≡◌, ℕ, zero, suc, ◌+◌, ◌-◌, ◌%◌, ◌<◌, Bool, true, false, cond, List, [], ◌∷◌, map, length, get_or, drop, filter, sym, refl, ap, ◌∙◌, subst, ap₂, mod-lt, mod-eq_of_lt, arith, length-drop, get_or-drop}
 use mathlib.Core.Bool.{and-true}
+use mathlib.Core.List.{map-map}
 use mathlib.Core.Path.{fun_ext}
 use native.Mathlib.Nat.{mod_self}
 use Rattle.std.proofs.ByRecursion.{All-get_or, all_kept_by, All-map, All-weaker}
@@ -8,7 +9,7 @@ use Rattle.std.proofs.lemmas.List.{drop-drop}
 use Rattle.std.specs.List.{flat_map as spread, AllByRecursion}
 use Rattle.engine.specs.Lines.{Hop, Way, cell_at, every, every_line, goes_round, hops, roster, upto}
 use Rattle.engine.specs.Tails.{begun_by, tails}
-use Rattle.engine.proofs.Lists.{all_spread, all_upto, every_cong, every_map, kept_by_and, kept_by_cong, kept_by_map, kept_by_spread, map_map, spread_cong, upto_front}
+use Rattle.engine.proofs.Lists.{all_spread, all_upto, every_cong, every_map, kept_by_and, kept_by_cong, kept_by_map, kept_by_spread, spread_cong, upto_front}
 
 -- a line of n cells
 abbrev pub Sound : ℕ → List ℕ → Type 0
@@ -61,7 +62,7 @@ module _ (line : List ℕ) where
       let within : t + 1 < length line = omega arith in
       let this-hop = ap hop at-t ∙ hop_is t t (t + 1) c d (mod-eq_of_lt (omega arith)) (mod-eq_of_lt within) here.1 after.1 in
       let shifted : (i : ℕ) → t + suc i ≡ t + 1 + i = λ i. omega arith in
-      let later = map_map (λ i. hop (t + i)) suc (upto (suc (length ds))) ∙ ap (λ f. map f (upto (suc (length ds)))) (fun_ext (λ i. ap hop (shifted i))) ∙ hops_from ds (t + 1) d rest-is in
+      let later = map-map (λ i. hop (t + i)) suc (upto (suc (length ds))) ∙ ap (λ f. map f (upto (suc (length ds)))) (fun_ext (λ i. ap hop (shifted i))) ∙ hops_from ds (t + 1) d rest-is in
       ap (map (λ i. hop (t + i))) (upto_front (suc (length ds))) ∙ ap₂ ◌∷◌ this-hop later
 
 -- the hops of a line, from its first cell on

@@ -1,5 +1,5 @@
 -- The bits of a word, by shifts and from the top down. Assumes nothing.
-use Rattle.std.proofs.Common.{◌≡◌, ℕ, zero, suc, ◌+◌, ◌*◌, ◌/◌, ◌%◌, ◌^◌, ◌<◌, ◌≤◌, Bool, true, false, ◌&&◌, eqb, ltb, List, get_or, sym, refl, ap, ◌∙◌, ap₂, ⊎_elim, le_of_suc-le-suc, div-one, arith}
+use Rattle.std.proofs.Common.{◌≡◌, ℕ, zero, suc, ◌+◌, ◌*◌, ◌/◌, ◌%◌, ◌^◌, ◌<◌, ◌≤◌, Bool, true, false, ◌&&◌, eqb, ltb, List, [], get_or, sym, refl, ap, ◌∙◌, ap₂, ⊎_elim, le_of_suc-le-suc, div-one, arith}
 use lib.Bits.{bit_and}
 use mathlib.Core.Bool.{and-false, and-true}
 use mathlib.Core.Path.{subst⁻¹}
@@ -53,12 +53,12 @@ inside_parts t c d h =
     let two = and_parts (ltb c 48) (ltb d 48) one.1 in
     (ltb-true t 64 one.0, ltb-true c 48 two.0, ltb-true d 48 two.1)
 
--- a table that has the words of a way at the first places says what the way says there
-pub said_upto : (words : List ℕ) (way : Way) (n : ℕ) → ((i d : ℕ) → i < 3072 → d < 48 → bit (get_or words i 0) d ≡ (ltb (i / 48) n && way (i / 48) (i % 48) d)) → (t c d : ℕ) → said words t c d ≡ ((ltb t n && inside t c d) && way t c d)
+-- where all words of the first places say what a way says, so does the table, within its bounds
+pub said_upto : (words : List (List ℕ)) (way : Way) (n : ℕ) → ((t c d : ℕ) → t < 64 → c < 48 → d < 48 → bit (get_or (get_or words t []) c 0) d ≡ (ltb t n && way t c d)) → (t c d : ℕ) → said words t c d ≡ ((ltb t n && inside t c d) && way t c d)
 said_upto words way n words-say t c d = ⊎_elim within outside (cases_Bool (inside t c d))
   where
     Says : Bool → Type 0
-    Says b = (b && bit (get_or words (48 * t + c) 0) d) ≡ ((ltb t n && b) && way t c d)
+    Says b = (b && bit (get_or (get_or words t []) c 0) d) ≡ ((ltb t n && b) && way t c d)
 
     outside : inside t c d ≡ false → said words t c d ≡ ((ltb t n && inside t c d) && way t c d)
     outside h = subst⁻¹ Says h (sym (ap (λ b. b && way t c d) (and-false (ltb t n))))
@@ -66,21 +66,14 @@ said_upto words way n words-say t c d = ⊎_elim within outside (cases_Bool (ins
     within : inside t c d ≡ true → said words t c d ≡ ((ltb t n && inside t c d) && way t c d)
     within h =
         let low = inside_parts t c d h in
-        let place : (48 * t + c) / 48 ≡ t = omega arith in
-        let cell : (48 * t + c) % 48 ≡ c = omega arith in
-        let here = words-say (48 * t + c) d (omega arith) low.2 in
-        subst⁻¹ Says h (here ∙ ap₂ (λ a b. ltb a n && way a b d) place cell ∙ sym (ap (λ b. b && way t c d) (and-true (ltb t n))))
+        subst⁻¹ Says h (words-say t c d low.0 low.1 low.2 ∙ sym (ap (λ b. b && way t c d) (and-true (ltb t n))))
 
 -- a table made from a way says at its places what the way says
-pub said_agrees : (words : List ℕ) (way : Way) (n : ℕ) → n ≤ 64 → ((t c d : ℕ) → said words t c d ≡ ((ltb t n && inside t c d) && way t c d)) → (t c d : ℕ) → t < n → c < 48 → d < 48 → said words t c d ≡ way t c d
+pub said_agrees : (words : List (List ℕ)) (way : Way) (n : ℕ) → n ≤ 64 → ((t c d : ℕ) → said words t c d ≡ ((ltb t n && inside t c d) && way t c d)) → (t c d : ℕ) → t < n → c < 48 → d < 48 → said words t c d ≡ way t c d
 said_agrees words way n most says t c d ht hc hd =
     let within = inside_from t c d (omega arith) hc hd in
     says t c d ∙ ap₂ (λ a b. (a && b) && way t c d) (lt-ltb t n ht) within
 
 -- a table says what the bits of its words say
-pub said_bit : (words : List ℕ) (t c d : ℕ) → t < 64 → c < 48 → d < 48 → said words t c d ≡ bit (get_or words (48 * t + c) 0) d
-said_bit words t c d ht hc hd = ap (λ b. b && bit (get_or words (48 * t + c) 0) d) (inside_from t c d ht hc hd)
-
--- where a word is empty, nothing may follow
-pub said_nothing : (words : List ℕ) (t c d : ℕ) → t < 64 → c < 48 → d < 48 → get_or words (48 * t + c) 0 ≡ 0 → said words t c d ≡ false
-said_nothing words t c d ht hc hd empty = said_bit words t c d ht hc hd ∙ ap (λ w. bit w d) empty ∙ bit_zero d
+pub said_bit : (words : List (List ℕ)) (t c d : ℕ) → t < 64 → c < 48 → d < 48 → said words t c d ≡ bit (get_or (get_or words t []) c 0) d
+said_bit words t c d ht hc hd = ap (λ b. b && bit (get_or (get_or words t []) c 0) d) (inside_from t c d ht hc hd)

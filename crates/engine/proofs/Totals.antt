@@ -1,5 +1,6 @@
 -- What the lines of the roster weigh together is what the table has. Assumes nothing.
 use Rattle.std.proofs.Common.{◌≡◌, ℕ, zero, suc, ◌+◌, ◌-◌, ◌<◌, ◌≤◌, Bool, true, false, cond, List, [], ◌∷◌, ◌++◌, map, length, sym, refl, ap, ◌∙◌, arith}
+use mathlib.Core.List.{map-map}
 use Rattle.std.proofs.ByRecursion.{All-map, All-weaker}
 use Rattle.std.proofs.lemmas.List.{length-map, map-append}
 use Rattle.std.specs.List.{flat_map as spread, AllByRecursion}
@@ -8,7 +9,7 @@ use Rattle.engine.specs.Lines.{Hop, Way, cell_at, hops, leap, roster, upto}
 use Rattle.engine.specs.Tables.{crossing, rest, round, sum}
 use Rattle.engine.specs.Tails.{begun_by, line_worth, tails, worth}
 use Rattle.engine.specs.Weights.{joined_weight, steps, weight}
-use Rattle.engine.proofs.Lists.{all_upto, length_upto, map_cong, map_map, spread_more}
+use Rattle.engine.proofs.Lists.{all_upto, length_upto, map_cong, spread_more}
 use Rattle.engine.proofs.Rests.{none_join, sum_cong}
 use Rattle.engine.proofs.Rosters.{Sound, cell_small, hops_line, hops_on, roster_sound, roster_tails}
 
@@ -46,7 +47,7 @@ module _ {M : Type 0} (R : Ring M) where
 
   tails_through : (b : Bool) (s : M) (d goal : ℕ) (c : ℕ) (ls : List (List ℕ)) → s ≡ R.step (leap c d) → joined R (map (worth R goal c) (cond b (map (λ ds. d ∷ ds) ls) [])) ≡ R.chain (cond b s R.none) (joined R (map (worth R goal d) ls))
   tails_through true s d goal c ls e =
-      ap (joined R) (map_map (worth R goal c) (λ ds. d ∷ ds) ls) ∙ joined_chain (R.step (leap c d)) (worth R goal d) ls ∙ ap (λ x. R.chain x (joined R (map (worth R goal d) ls))) (sym e)
+      ap (joined R) (map-map (worth R goal c) (λ ds. d ∷ ds) ls) ∙ joined_chain (R.step (leap c d)) (worth R goal d) ls ∙ ap (λ x. R.chain x (joined R (map (worth R goal d) ls))) (sym e)
   tails_through false s d goal c ls e = sym (R.none_chain (joined R (map (worth R goal d) ls)))
 
   pub joined_tails : (way : Way) (goal k t c : ℕ) → joined R (map (worth R goal c) (tails way goal k t c)) ≡ rest R way goal k t c
@@ -72,7 +73,7 @@ module _ {M : Type 0} (R : Ring M) where
       ap (λ ls. joined R (map (line_worth R) ls)) (roster_tails way k)
       ∙ joined_spread (line_worth R) (begun_by way k) 48
       ∙ sum_cong R _ _ 48 (λ c h.
-      ap (joined R) (map_map (line_worth R) (λ ds. c ∷ ds) (tails way c k 0 c)) ∙ joined_tails way c k 0 c ∙ ap (λ j. rest R way c j 0 c) left)
+      ap (joined R) (map-map (line_worth R) (λ ds. c ∷ ds) (tails way c k 0 c)) ∙ joined_tails way c k 0 c ∙ ap (λ j. rest R way c j 0 c) left)
 
   -- the lines of the roster together
   pub roster_round : (way : Way) (n : ℕ) → 0 < n → joined_weight R n (roster way n) ≡ round R way n

@@ -1,18 +1,19 @@
 -- The first line of the total weight, found place by place. Assumes nothing.
 use Rattle.std.proofs.Common.{◌≡◌, ℕ, zero, suc, ◌+◌, ◌-◌, ◌<◌, ◌≤◌, Bool, true, false, cond, ◌&&◌, List, [], ◌∷◌, ◌++◌, map, length, take, set, is_some, Some, None, Option, sym, refl, ap, ◌∙◌, subst, ap₂, ⊎_elim, arith}
+use mathlib.Core.List.{map-map}
 use mathlib.Core.Path.{fun_ext}
 use Rattle.std.proofs.ByRecursion.{All-weaker}
-use Rattle.std.proofs.lemmas.List.{append_assoc, append-nil, take_more_set}
-use Rattle.std.proofs.lemmas.Bool.{and_parts, both_ways, cases_Bool, cases_lt}
-use Rattle.std.specs.Option.{option_map}
+use Rattle.std.proofs.lemmas.List.{append_assoc, append-nil, take_all, take_more_set}
+use Rattle.std.proofs.lemmas.Bool.{and_parts, both_ways, cases_Bool}
+use Rattle.std.specs.Option.{IsSome, option_map}
 use Rattle.std.specs.List.{AllByRecursion}
 use Rattle.measure.specs.Algebra.{Ring, joined, walked}
 use Rattle.engine.specs.Lines.{Way, leap, roster}
 use Rattle.engine.specs.Tables.{crossing, rest, round, sum}
 use Rattle.engine.specs.Tails.{attains, begun_by, best_from, line_worth, tails, worth}
+use Rattle.engine.specs.Turns.{IsFirst, Leads}
 use Rattle.engine.specs.Weights.{first_best, first_with, joined_weight, steps, weight}
 use Rattle.engine.proofs.Firsts.{first_with_cong, first_with_map, first_with_spread, is_some_mapped, mapped_mapped, none_from}
-use Rattle.engine.proofs.Lists.{map_map}
 use Rattle.engine.proofs.Picks.{attained, join_same, picks_from, same_from_picks, sum_attained, sum_under}
 use Rattle.engine.proofs.Rests.{crossing_open, crossing_shut, none_join}
 use Rattle.engine.proofs.Rosters.{Sound, roster_sound, roster_tails}
@@ -101,18 +102,18 @@ module _ {M : Type 0} (R : Ring M) (picks : M → M → Bool) (either : (x y : M
         opened h = none_from (first_with test (by_cell d)) (is_some_by_open d l h ∙ ap (λ b. b && picks (R.chain (R.chain p (R.step (leap c d))) (rest R way goal k (t + 1) d)) total) (sym h) ∙ misses)
 
     -- the first list goes on by the first cell that attains the total
-    pub best_tail_step : (d : ℕ) → d < 48 → ((e : ℕ) → e < d → attains R picks way goal k t c p total e ≡ false) → attains R picks way goal k t c p total d ≡ true → best_tail (suc k) t c p ≡ option_map (λ ds. d ∷ ds) (best_tail k (t + 1) d (R.chain p (R.step (leap c d))))
+    pub best_tail_step : (d : ℕ) → Leads (attains R picks way goal k t c p total) d → best_tail (suc k) t c p ≡ option_map (λ ds. d ∷ ds) (best_tail k (t + 1) d (R.chain p (R.step (leap c d))))
     unfolding tails
-    best_tail_step d l before here =
-        let yes-d = and_parts (way t c d) (picks (R.chain (R.chain p (R.step (leap c d))) (rest R way goal k (t + 1) d)) total) here in
-        first_with_spread test by_cell 48 d l (λ e m. passed_over e (omega arith) (before e m)) (is_some_by_open d l yes-d.0 ∙ yes-d.1)
+    best_tail_step d leads =
+        let yes-d = and_parts (way t c d) (picks (R.chain (R.chain p (R.step (leap c d))) (rest R way goal k (t + 1) d)) total) leads.passes in
+        first_with_spread test by_cell 48 d leads.small (λ e m. passed_over e (omega (arith, leads.small)) (leads.before e m)) (is_some_by_open d leads.small yes-d.0 ∙ yes-d.1)
         ∙ by_open d yes-d.0
 
     -- and what is left comes to the total
-    pub total_step : (d : ℕ) → d < 48 → attains R picks way goal k t c p total d ≡ true → R.chain (R.chain p (R.step (leap c d))) (rest R way goal k (t + 1) d) ≡ total
-    total_step d l here =
-        let yes-d = and_parts (way t c d) (picks (R.chain (R.chain p (R.step (leap c d))) (rest R way goal k (t + 1) d)) total) here in
-        same_from_picks R picks either former _ total (under_open d l yes-d.0) yes-d.1
+    pub total_step : (d : ℕ) → Leads (attains R picks way goal k t c p total) d → R.chain (R.chain p (R.step (leap c d))) (rest R way goal k (t + 1) d) ≡ total
+    total_step d leads =
+        let yes-d = and_parts (way t c d) (picks (R.chain (R.chain p (R.step (leap c d))) (rest R way goal k (t + 1) d)) total) leads.passes in
+        same_from_picks R picks either former _ total (under_open d leads.small yes-d.0) yes-d.1
 
   -- at the last place only the seam is left
   pub best_tail_last : (t c : ℕ) (p : M) → R.chain p (rest R way goal 0 t c) ≡ total → best_tail 0 t c p ≡ Some []
@@ -135,20 +136,21 @@ module _ {M : Type 0} (R : Ring M) (picks : M → M → Bool) (either : (x y : M
       ∙ ap (λ q. option_map (λ ds. start ∷ ds) (first_with q (tails way start k 0 start))) (fun_ext (λ ds. ap (λ x. picks x total) (sym (R.one_chain (worth R start start ds)))))
 
   joined_begun : (k c : ℕ) → joined R (map (line_worth R) (begun_by way k c)) ≡ rest R way c k 0 c
-  joined_begun k c = ap (joined R) (map_map (line_worth R) (λ ds. c ∷ ds) (tails way c k 0 c)) ∙ joined_tails R way c k 0 c
+  joined_begun k c = ap (joined R) (map-map (line_worth R) (λ ds. c ∷ ds) (tails way c k 0 c)) ∙ joined_tails R way c k 0 c
 
   module _ (n : ℕ) (total : M) (most : 0 < n) (is : total ≡ round R way n) (some : picks R.none total ≡ false) where
     abbrev from : ℕ → M
     from c = rest R way c (n - 1) 0 c
 
     -- some start cell's lines come to the total
-    pub some_start : ((c : ℕ) → c < 48 → picks (from c) total ≡ false) → ⊥
-    some_start nowhere =
-        sum_attained R picks either former from 48 total (sym is) (λ e. both_ways (picks R.none total) some (picks_from R picks either former R.none total e))
-        (λ c l e. both_ways (picks (from c) total) (nowhere c l) (picks_from R picks either former (from c) total e))
+    pub some_start : (found : Option ℕ) → IsFirst (λ c. picks (from c) total) found → IsSome found
+    some_start (Some c) leads = refl
+    some_start None nowhere =
+        absurd (sum_attained R picks either former from 48 total (sym is) (λ e. both_ways (picks R.none total) some (picks_from R picks either former R.none total e))
+        (λ c l e. both_ways (picks (from c) total) (nowhere c l) (picks_from R picks either former (from c) total e)))
 
-    pub start_total : (c : ℕ) → c < 48 → picks (from c) total ≡ true → from c ≡ total
-    start_total c l h = same_from_picks R picks either former (from c) total (under c l) h
+    pub start_total : (c : ℕ) → Leads (λ d. picks (from d) total) c → from c ≡ total
+    start_total c leads = same_from_picks R picks either former (from c) total (under c leads.small) leads.passes
       where
         under : (c : ℕ) → c < 48 → R.join (from c) total ≡ total
         under c l = ap (R.join (from c)) is ∙ sum_under R picks either former from 48 c l ∙ sym is
@@ -166,18 +168,18 @@ module _ {M : Type 0} (R : Ring M) (picks : M → M → Bool) (either : (x y : M
         ap (λ x. first_with (λ line. picks (weight R (suc k) line) x) (roster way (suc k))) (roster_round R way (suc k) (omega arith) ∙ sym is)
         ∙ first_with_cong _ _ (roster way (suc k)) (All-weaker (Sound (suc k)) _ (λ line s. ap (λ x. picks x total) (weight_line R (suc k) line (omega arith) s)) (roster way (suc k)) (roster_sound way (suc k)))
 
-    start_best : (start : ℕ) → start < 48 → ((c : ℕ) → c < start → picks (rest R way c (suc k - 1) 0 c) total ≡ false) → picks (rest R way start (suc k - 1) 0 start) total ≡ true → first_best R picks (suc k) (roster way (suc k)) ≡ best_from R picks way k total start
-    start_best start l before here =
+    start_best : (start : ℕ) → Leads (λ c. picks (rest R way c (suc k - 1) 0 c) total) start → first_best R picks (suc k) (roster way (suc k)) ≡ best_from R picks way k total start
+    start_best start leads =
         best_weights ∙ ap (first_with (λ line. picks (line_worth R line) total)) (roster_tails way k)
-        ∙ first_with_spread (λ line. picks (line_worth R line) total) (begun_by way k) 48 start l
-        (λ c m. none_from (best_from R picks way k total c) (is_some_from c (omega arith) ∙ before c m)) (is_some_from start l ∙ here)
+        ∙ first_with_spread (λ line. picks (line_worth R line) total) (begun_by way k) 48 start leads.small
+        (λ c m. none_from (best_from R picks way k total c) (is_some_from c (omega (arith, leads.small)) ∙ leads.before c m)) (is_some_from start leads.small ∙ leads.passes)
 
   -- the first line begins with the first cell whose lines come to the total
-  pub first_best_from : (n : ℕ) (total : M) → 0 < n → total ≡ round R way n → picks R.none total ≡ false → (start : ℕ) → start < 48 → ((c : ℕ) → c < start → picks (rest R way c (n - 1) 0 c) total ≡ false) → picks (rest R way start (n - 1) 0 start) total ≡ true → first_best R picks n (roster way n) ≡ best_from R picks way (n - 1) total start
-  first_best_from zero total most is some start l before here = absurd (omega arith)
-  first_best_from (suc k) total most is some start l before here =
+  pub first_best_from : (n : ℕ) (total : M) → 0 < n → total ≡ round R way n → picks R.none total ≡ false → (start : ℕ) → Leads (λ c. picks (rest R way c (n - 1) 0 c) total) start → first_best R picks n (roster way n) ≡ best_from R picks way (n - 1) total start
+  first_best_from zero total most is some start leads = absurd (omega arith)
+  first_best_from (suc k) total most is some start leads =
       let left : k ≡ suc k - 1 = omega arith in
-      start_best k total is some start l before here ∙ ap (λ j. best_from R picks way j total start) left
+      start_best k total is some start leads ∙ ap (λ j. best_from R picks way j total start) left
 
   -- where no chain of steps is none, a total that is none has no line
   module _ (lasting : (sizes : List ℕ) → length sizes ≤ 64 → AllByRecursion (λ s. s ≤ 23) sizes → walked R sizes ≡ R.none → ⊥) where
@@ -211,39 +213,33 @@ module _ {M : Type 0} (R : Ring M) (picks : M → M → Bool) (either : (x y : M
         best_from_tail R picks either former way (n - 1) goal total some ∙ ap₂ (λ xs k. option_map (λ ds. xs ++ ds) (best_tail R picks either former way goal total some k 0 goal R.one)) (sym front) left,
       )
 
-  -- the next cell is not past the last
-  pub next_small : (t c d : ℕ) (p : M) → t + 1 < n → d ≤ 48 → R.chain p (rest R way goal (n - 1 - t) t c) ≡ total → ((e : ℕ) → e < d → attains R picks way goal (n - 1 - (t + 1)) t c p total e ≡ false) → d < 48
-  next_small t c d p within most whole before =
+  -- there is a next cell
+  pub some_next : (t c : ℕ) (p : M) → t + 1 < n → R.chain p (rest R way goal (n - 1 - t) t c) ≡ total → (found : Option ℕ) → IsFirst (attains R picks way goal (n - 1 - (t + 1)) t c p total) found → IsSome found
+  some_next t c p within whole (Some d) leads = refl
+  some_next t c p within whole None nowhere =
       let left : n - 1 - t ≡ suc (n - 1 - (t + 1)) = omega arith in
-      ⊎_elim (λ h. h)
-      (λ h. absurd (some_attains R picks either former way goal total some (n - 1 - (t + 1)) t c p (ap (λ k. R.chain p (rest R way goal k t c)) (sym left) ∙ whole) (λ e l. before e (omega arith))))
-      (cases_lt d 48)
+      absurd (some_attains R picks either former way goal total some (n - 1 - (t + 1)) t c p (ap (λ k. R.chain p (rest R way goal k t c)) (sym left) ∙ whole) nowhere)
 
-  pub traced_step : (t c d : ℕ) (p : M) (line : List ℕ) → t + 1 < n → n ≤ length line → d < 48 → Traced R picks way goal n total t c p line → ((e : ℕ) → e < d → attains R picks way goal (n - 1 - (t + 1)) t c p total e ≡ false) → attains R picks way goal (n - 1 - (t + 1)) t c p total d ≡ true → Traced R picks way goal n total (t + 1) d (R.chain p (R.step (leap c d))) (set line (t + 1) d)
-  traced_step t c d p line within room small traced before here =
+  pub traced_step : (t c d : ℕ) (p : M) (line : List ℕ) → t + 1 < n → n ≤ length line → Traced R picks way goal n total t c p line → Leads (attains R picks way goal (n - 1 - (t + 1)) t c p total) d → Traced R picks way goal n total (t + 1) d (R.chain p (R.step (leap c d))) (set line (t + 1) d)
+  traced_step t c d p line within room traced leads =
       let k = n - 1 - (t + 1) in
       let left : n - 1 - t ≡ suc k = omega arith in
       let whole : R.chain p (rest R way goal (suc k) t c) ≡ total = ap (λ j. R.chain p (rest R way goal j t c)) (sym left) ∙ traced.0 in
       let next = best_tail R picks either former way goal total some k (t + 1) d (R.chain p (R.step (leap c d))) in
       let front : take (t + 1 + 1) (set line (t + 1) d) ≡ take (t + 1) line ++ d ∷ [] = take_more_set line (t + 1) d (omega arith) in (
-        total_step R picks either former way goal total some k t c p whole d small here,
+        total_step R picks either former way goal total some k t c p whole d leads,
         traced.1
             ∙ ap (λ j. option_map (λ ds. take (t + 1) line ++ ds) (best_tail R picks either former way goal total some j t c p)) left
-            ∙ ap (option_map (λ ds. take (t + 1) line ++ ds)) (best_tail_step R picks either former way goal total some k t c p whole d small before here)
+            ∙ ap (option_map (λ ds. take (t + 1) line ++ ds)) (best_tail_step R picks either former way goal total some k t c p whole d leads)
             ∙ mapped_mapped (λ ds. take (t + 1) line ++ ds) (λ ds. d ∷ ds) next
             ∙ ap (λ f. option_map f next) (fun_ext (λ ds. sym (ap (λ xs. xs ++ ds) front ∙ append_assoc (take (t + 1) line) (d ∷ []) ds))),
       )
 
-  pub traced_end : (t c : ℕ) (p : M) (line : List ℕ) → t + 1 ≡ n → Traced R picks way goal n total t c p line → best_from R picks way (n - 1) total goal ≡ Some (take n line)
-  traced_end t c p line last traced =
+  pub traced_end : (t c : ℕ) (p : M) (line : List ℕ) → t + 1 ≡ n → length line ≡ n → Traced R picks way goal n total t c p line → best_from R picks way (n - 1) total goal ≡ Some line
+  traced_end t c p line last room traced =
       let left : n - 1 - t ≡ 0 = omega arith in
       let whole : R.chain p (rest R way goal 0 t c) ≡ total = ap (λ j. R.chain p (rest R way goal j t c)) (sym left) ∙ traced.0 in
       traced.1
       ∙ ap (λ j. option_map (λ ds. take (t + 1) line ++ ds) (best_tail R picks either former way goal total some j t c p)) left
       ∙ ap (option_map (λ ds. take (t + 1) line ++ ds)) (best_tail_last R picks either former way goal total some t c p whole)
-      ∙ ap Some (append-nil (take (t + 1) line) ∙ ap (λ m. take m line) last)
-
--- the start cell is not past the last
-pub start_small : {M : Type 0} (R : Ring M) (picks : M → M → Bool) (either : (x y : M) → R.join x y ≡ cond (picks x y) x y) (former : (x y : M) → R.join x y ≡ x → picks x y ≡ true) (way : Way) (n : ℕ) (total : M) → 0 < n → total ≡ round R way n → picks R.none total ≡ false → (start : ℕ) → start ≤ 48 → ((c : ℕ) → c < start → picks (rest R way c (n - 1) 0 c) total ≡ false) → start < 48
-start_small R picks either former way n total least is some start most before =
-    ⊎_elim (λ h. h) (λ h. absurd (some_start R picks either former way n total least is some (λ c l. before c (omega arith)))) (cases_lt start 48)
+      ∙ ap Some (append-nil (take (t + 1) line) ∙ take_all (t + 1) line (omega arith))

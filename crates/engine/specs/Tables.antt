@@ -1,5 +1,5 @@
 -- The working table: for one start cell, what all ways on from each place and cell come to. Assumes nothing.
-use Rattle.std.specs.Prelude.{◌≡◌, ℕ, zero, suc, ◌+◌, ◌-◌, ◌*◌, ◌<◌, ◌≤◌, cond, List, length, drop, slice_index_or}
+use Rattle.std.specs.Prelude.{◌≡◌, ℕ, zero, suc, ◌+◌, ◌-◌, ◌*◌, ◌<◌, ◌≤◌, cond, List, slice_index_or}
 use Rattle.measure.specs.Algebra.{Ring}
 use Rattle.engine.specs.Lines.{Way, leap}
 
@@ -21,10 +21,6 @@ rest R way goal (suc k) t c = sum R (λ d. R.chain (crossing R way t c d) (rest 
 abbrev pub round : {M : Type 0} → Ring M → Way → ℕ → M
 round R way n = sum R (λ c. rest R way c (n - 1) 0 c) 48
 
--- one hop from c at place t to d, and on by what the table has there
-abbrev pub through : {M : Type 0} → Ring M → Way → List M → ℕ → ℕ → ℕ → M
-through R way cells t c d = R.chain (crossing R way t c d) (slice_index_or cells (48 * (t + 1) + d) R.none)
-
 -- a place's first cells are filled
 abbrev pub Begun : {M : Type 0} → Ring M → Way → ℕ → ℕ → ℕ → ℕ → List M → Type 0
 Begun R way goal n t cell cells =
@@ -33,7 +29,3 @@ Begun R way goal n t cell cells =
 -- the places from one on are filled
 abbrev pub Filled : {M : Type 0} → Ring M → Way → ℕ → ℕ → ℕ → List M → Type 0
 Filled R way goal n from cells = (t : ℕ) → from ≤ t → t < n → Begun R way goal n t 48 cells
-
--- what lies beyond n places is as it was
-abbrev pub Kept : {M : Type 0} → ℕ → List M → List M → Type 0
-Kept n before after = (length after ≡ length before) × (drop (48 * n) after ≡ drop (48 * n) before)

@@ -2,156 +2,119 @@
 // Knows nothing of why a hop is let through, and of measures only their laws.
 ghost use Rattle.std.specs.Prelude.{◌≡◌, ◌+◌, ◌-◌, ◌*◌, ◌<◌, ◌≤◌, length};
 ghost use Rattle.engine.specs.Lines.{leap};
-ghost use Rattle.engine.specs.Tables.{Filled, Kept, crossing, rest, round, sum, through};
-ghost use Rattle.engine.specs.Words.{said};
+ghost use Rattle.engine.specs.Tables.{Filled, crossing, round};
+ghost use Rattle.engine.specs.Ways.{lines_from, rest_from, way_of};
 
 use crate::passage::Passage;
+use crate::roster::Roster;
 use crate::store::Store;
-use crate::verdicts::{CELLS, Verdicts, says};
+use crate::verdicts::{CELLS, says};
 use measure::algebra::Measure;
 
-/// How far the keys of two cells are apart.
-pub(crate) fn step_size(cell: usize, next: usize) -> u8
+/// The step between two cells.
+pub(crate) fn step_between<M: Measure>(cell: usize, next: usize) -> M
     requires { (cell < 48) × (next < 48) }
-    ensures { result ≡ leap cell next }
+    ensures { result ≡ M.ring.step (leap cell next) }
 {
-    (cell / 2).abs_diff(next / 2) as u8
+    M::step((cell / 2).abs_diff(next / 2) as u8)
 }
 
-/// A step between two cells, and what comes after it.
-pub(crate) fn step_then<M: Measure>(cell: usize, next: usize, after: M) -> M
-    requires { (cell < 48) × (next < 48) }
-    ensures { result ≡ M.ring.chain (M.ring.step (leap cell next)) after }
-{
-    M::step(step_size(cell, next)).chain(after)
-}
-
-/// What comes before, and a step between two cells.
-pub(crate) fn then_step<M: Measure>(before: M, cell: usize, next: usize) -> M
-    requires { (cell < 48) × (next < 48) }
-    ensures { result ≡ M.ring.chain before (M.ring.step (leap cell next)) }
-{
-    before.chain(M::step(step_size(cell, next)))
-}
-
-/// All ways on from a cell that is not at the last place, by the place after it.
-fn onward<M: Measure>(store: &Store<'_, M>, verdicts: &Verdicts, place: usize, cell: usize) -> M
-    requires { (place < 63) × ((cell < 48) × (48 * (place + 2) ≤ length store.now.cells.now)) }
-    ensures { result ≡ sum M.ring (through M.ring (said verdicts.now.words) store.now.cells.now place cell) 48 }
-{
-    let mut total = M::nothing();
-    let word = verdicts.word(place, cell);
-    if word == 0 {
-        return total;
+impl<M: Measure> Store<'_, M> {
+    /// All ways on from a cell that is not at the last place, the place after it being filled.
+    fn onward(&self, place: usize, cell: usize) -> M
+        requires { (self.now.from ≤ place + 1) × ((place + 1 < self.now.roster.now.places) × (cell < 48)) }
+        ensures { result ≡ rest_from M.ring self.now.roster.now self.now.goal place cell }
+    {
+        let mut total = M::NONE;
+        let word = self.roster.verdicts.word(place, cell);
+        if word == 0 {
+            return total;
+        }
+        for next in 0..CELLS {
+            if says(word, next) {
+                let after = self.get(place + 1, next);
+                total = total.join(step_between::<M>(cell, next).chain(after));
+            }
+        }
+        total
     }
-    for next in 0..CELLS {
-        if says(word, next) {
-            let after = store.get(CELLS * (place + 1) + next);
-            total = total.join(step_then(cell, next, after));
+
+    /// The way on from a cell at the last place: the step over the seam to the goal.
+    fn over_seam(&self, place: usize, cell: usize) -> M
+        requires { cell < 48 }
+        ensures { result ≡ crossing M.ring (way_of self.now.roster.now) place cell self.now.goal }
+    {
+        if self.roster.verdicts.may(place, cell, self.goal) {
+            step_between(cell, self.goal)
+        } else {
+            M::NONE
         }
     }
-    total
-}
 
-/// The way on from a cell at the last place: the step over the seam to the goal.
-fn over_seam<M: Measure>(verdicts: &Verdicts, goal: usize, place: usize, cell: usize) -> M
-    requires { (cell < 48) × (goal < 48) }
-    ensures { result ≡ crossing M.ring (said verdicts.now.words) place cell goal }
-{
-    if verdicts.may(place, cell, goal) {
-        M::step(step_size(cell, goal))
-    } else {
-        M::nothing()
+    /// All ways on from a cell, the places after it being filled.
+    fn value(&self, place: usize, cell: usize) -> M
+        requires { (self.now.from ≤ place + 1) × ((place < self.now.roster.now.places) × (cell < 48)) }
+        ensures { result ≡ rest_from M.ring self.now.roster.now self.now.goal place cell }
+    {
+        if place + 1 < self.roster.places {
+            self.onward(place, cell)
+        } else {
+            self.over_seam(place, cell)
+        }
     }
 }
 
-/// All ways on from a cell, the places after it being filled.
-fn value_of<M: Measure>(
-    store: &Store<'_, M>,
-    verdicts: &Verdicts,
-    goal: usize,
-    n: usize,
-    place: usize,
-    cell: usize,
-) -> M
-    requires bounds { (place < n) × ((n ≤ 64) × ((cell < 48) × ((goal < 48) × (48 * n ≤ length store.now.cells.now)))) }
-    requires filled { Filled M.ring (said verdicts.now.words) goal n (place + 1) store.now.cells.now }
-    ensures { result ≡ rest M.ring (said verdicts.now.words) goal (n - 1 - place) place cell }
-{
-    if place + 1 < n {
-        onward(store, verdicts, place, cell)
-    } else {
-        over_seam(verdicts, goal, place, cell)
+impl Roster {
+    /// Fills a place, the places after it being filled.
+    fn fill_place<M: Measure>(&self, cells: &mut [M], goal: usize, place: usize)
+        requires bounds { (place < self.now.places) × ((goal < 48) × (length cells.old ≡ 48 * self.now.places)) }
+        requires filled { Filled M.ring (way_of self.now) goal self.now.places (place + 1) cells.old }
+        ensures { Filled M.ring (way_of self.now) goal self.now.places place cells.new }
+    {
+        for cell in 0..CELLS {
+            let store = Store {
+                roster: self,
+                goal,
+                from: place + 1,
+                cells,
+            };
+            let value = store.value(place, cell);
+            cells[CELLS * place + cell] = value;
+        }
     }
-}
 
-/// Fills a place, the places after it being filled.
-fn fill_place<M: Measure>(
-    store: &mut Store<'_, M>,
-    verdicts: &Verdicts,
-    goal: usize,
-    n: usize,
-    place: usize,
-)
-    requires bounds { (place < n) × ((n ≤ 64) × ((goal < 48) × (48 * n ≤ length store.old.cells.now))) }
-    requires filled { Filled M.ring (said verdicts.now.words) goal n (place + 1) store.old.cells.now }
-    ensures lender { store.new.cells.ghost_name ≡ store.old.cells.ghost_name }
-    ensures filled { Filled M.ring (said verdicts.now.words) goal n place store.new.cells.now }
-    ensures kept { Kept n store.old.cells.now store.new.cells.now }
-{
-    for cell in 0..CELLS {
-        let value = value_of(store, verdicts, goal, n, place, cell);
-        store.put(CELLS * place + cell, value);
+    /// Fills all places for a start cell, from the last one back, and gives what its lines come to.
+    pub(crate) fn fill<M: Measure>(&self, cells: &mut [M], start: usize) -> M
+        requires { (start < 48) × (length cells.old ≡ 48 * self.now.places) }
+        ensures filled { Filled M.ring (way_of self.now) start self.now.places 0 cells.new }
+        ensures value { result ≡ lines_from M.ring self.now start }
+    {
+        for place in (0..self.places).rev() {
+            self.fill_place(cells, start, place);
+        }
+        cells[start]
     }
-}
 
-/// Fills all places for a start cell, from the last one back, and gives what its lines come to.
-pub(crate) fn weigh_from<M: Measure>(
-    store: &mut Store<'_, M>,
-    verdicts: &Verdicts,
-    start: usize,
-    n: usize,
-) -> M
-    requires bounds { (0 < n) × ((n ≤ 64) × ((start < 48) × (48 * n ≤ length store.old.cells.now))) }
-    ensures lender { store.new.cells.ghost_name ≡ store.old.cells.ghost_name }
-    ensures filled { Filled M.ring (said verdicts.now.words) start n 0 store.new.cells.now }
-    ensures kept { Kept n store.old.cells.now store.new.cells.now }
-    ensures value { result ≡ rest M.ring (said verdicts.now.words) start (n - 1) 0 start }
-{
-    for place in (0..n).rev() {
-        fill_place(store, verdicts, start, n, place);
+    /// What a start cell's lines come to, with no filling where no cell may follow it.
+    fn weigh_start<M: Measure>(&self, cells: &mut [M], start: usize) -> M
+        requires { (start < 48) × (length cells.old ≡ 48 * self.now.places) }
+        ensures { result ≡ lines_from M.ring self.now start }
+    {
+        if self.verdicts.word(0, start) == 0 {
+            return M::NONE;
+        }
+        self.fill(cells, start)
     }
-    store.get(start)
-}
 
-/// What a start cell's lines come to, with no filling where no cell may follow it.
-fn weigh_start<M: Measure>(
-    store: &mut Store<'_, M>,
-    verdicts: &Verdicts,
-    start: usize,
-    n: usize,
-) -> M
-    requires bounds { (0 < n) × ((n ≤ 64) × ((start < 48) × (48 * n ≤ length store.old.cells.now))) }
-    ensures lender { store.new.cells.ghost_name ≡ store.old.cells.ghost_name }
-    ensures kept { Kept n store.old.cells.now store.new.cells.now }
-    ensures value { result ≡ rest M.ring (said verdicts.now.words) start (n - 1) 0 start }
-{
-    if verdicts.word(0, start) == 0 {
-        return M::nothing();
+    /// What all lines come to.
+    pub(crate) fn weigh<M: Measure>(&self, cells: &mut [M]) -> M
+        requires { length cells.old ≡ 48 * self.now.places }
+        ensures { result ≡ round M.ring (way_of self.now) self.now.places }
+    {
+        let mut total = M::NONE;
+        for start in 0..CELLS {
+            total = total.join(self.weigh_start(cells, start));
+        }
+        total
     }
-    weigh_from(store, verdicts, start, n)
-}
-
-/// What all closed lines that are let through come to.
-pub(crate) fn weigh_all<M: Measure>(store: &mut Store<'_, M>, verdicts: &Verdicts, n: usize) -> M
-    requires bounds { (0 < n) × ((n ≤ 64) × (48 * n ≤ length store.old.cells.now)) }
-    ensures lender { store.new.cells.ghost_name ≡ store.old.cells.ghost_name }
-    ensures kept { Kept n store.old.cells.now store.new.cells.now }
-    ensures value { result ≡ round M.ring (said verdicts.now.words) n }
-{
-    let mut total = M::nothing();
-    for start in 0..CELLS {
-        total = total.join(weigh_start(store, verdicts, start, n));
-    }
-    total
 }

@@ -6,6 +6,7 @@ mod fill;
 mod fit;
 pub mod passage;
 pub mod picking;
+mod roster;
 pub mod store;
 pub mod tracing;
 pub mod unfit;

@@ -1,36 +1,32 @@
 // Working memory: a value for each place and cell, over a lent slice.
-// Knows nothing of what the values mean.
-ghost use Rattle.std.specs.Prelude.{◌≡◌, ◌<◌, length, slice_index_or, slice_set};
+// Knows nothing of why a hop is let through, and of measures only their laws.
+ghost use Rattle.std.specs.Prelude.{◌≡◌, ◌*◌, ◌<◌, ◌≤◌, length};
+ghost use Rattle.engine.specs.Tables.{Filled};
+ghost use Rattle.engine.specs.Ways.{rest_from, way_of};
 
-/// One value for each place and cell, in a slice lent by the caller.
+use crate::roster::Roster;
+use crate::verdicts::CELLS;
+use measure::algebra::Measure;
+
+/// One value for each place and cell, in a slice lent by the caller: from one place on, what all ways on
+/// from the cell to the goal come to.
 #[derive(Drop)]
-pub struct Store<'a, M> {
-    pub(crate) cells: &'a mut [M],
+pub struct Store<'a, M: Measure> {
+    pub(crate) roster: &'a Roster,
+    pub(crate) goal: usize,
+    pub(crate) from: usize,
+    pub(crate) cells: &'a [M],
+    ghost goal_is_cell: { goal < 48 },
+    ghost room: { length cells.now ≡ 48 * roster.now.places },
+    ghost filled: { Filled M.ring (way_of roster.now) goal roster.now.places from cells.now },
 }
 
-/// The value at an index of a slice.
-fn value_at<M: Copy>(cells: &[M], index: usize) -> M
-    requires { index < length cells.now }
-    ensures { (d : M) → result ≡ slice_index_or cells.now index d }
-{
-    cells[index]
-}
-
-impl<M: Copy> Store<'_, M> {
-    /// The value at an index.
-    pub(crate) fn get(&self, index: usize) -> M
-        requires { index < length self.now.cells.now }
-        ensures { (d : M) → result ≡ slice_index_or self.now.cells.now index d }
+impl<M: Measure> Store<'_, M> {
+    /// What all ways on from a cell come to, at a place that is filled.
+    pub(crate) fn get(&self, place: usize, cell: usize) -> M
+        requires { (self.now.from ≤ place) × ((place < self.now.roster.now.places) × (cell < 48)) }
+        ensures { result ≡ rest_from M.ring self.now.roster.now self.now.goal place cell }
     {
-        value_at(self.cells, index)
-    }
-
-    /// Writes a value at an index.
-    pub(crate) fn put(&mut self, index: usize, value: M)
-        requires { index < length self.old.cells.now }
-        ensures lender { self.new.cells.ghost_name ≡ self.old.cells.ghost_name }
-        ensures after { self.new.cells.now ≡ slice_set self.old.cells.now index value }
-    {
-        self.cells[index] = value;
+        self.cells[CELLS * place + cell]
     }
 }

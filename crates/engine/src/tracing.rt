@@ -1,123 +1,78 @@
 // The question which line is the first of the joined weight, over a choosing measure.
 // Knows nothing of why a hop is let through, and of measures only their laws.
-ghost use Rattle.std.specs.Prelude.{◌≡◌, ℕ, ◌+◌, ◌-◌, ◌*◌, ◌<◌, ◌≤◌, true, false, length, take, drop, is_some, is_ok, Some};
+ghost use Rattle.std.specs.Prelude.{◌≡◌, ◌+◌, ◌-◌, ◌*◌, ◌<◌, ◌≤◌, false, length, drop, is_some, is_ok, Some, IfSome};
 ghost use Rattle.engine.specs.Answers.{first_no, line_questions, unless, unless_written, written};
 ghost use Rattle.engine.specs.Lines.{roster};
-ghost use Rattle.engine.specs.Tables.{Filled, Kept, rest};
+ghost use Rattle.engine.specs.Tables.{Filled};
 ghost use Rattle.engine.specs.Tails.{attains, best_from};
+ghost use Rattle.engine.specs.Turns.{IsFirst};
+ghost use Rattle.engine.specs.Ways.{lines_from, way_of};
 ghost use Rattle.engine.specs.Weights.{first_best};
-ghost use Rattle.engine.specs.Words.{said};
 
-use crate::fill::{then_step, weigh_all, weigh_from};
+use crate::fill::step_between;
 use crate::fit::line_for;
 use crate::passage::Passage;
+use crate::roster::Roster;
 use crate::store::Store;
 use crate::unfit::Unfit;
-use crate::verdicts::{CELLS, Verdicts};
+use crate::verdicts::CELLS;
 use measure::algebra::Choosing;
 
-/// The first cell by which the way goes on to a line of the total weight, 48 if there is none.
-fn next_best<M: Choosing>(
-    store: &Store<'_, M>,
-    verdicts: &Verdicts,
-    goal: usize,
-    n: usize,
-    place: usize,
-    cell: usize,
-    prefix: M,
-    total: M,
-) -> usize
-    requires bounds { (place + 1 < n) × ((n ≤ 64) × ((cell < 48) × (48 * n ≤ length store.now.cells.now))) }
-    requires filled { Filled M.ring (said verdicts.now.words) goal n 0 store.now.cells.now }
-    ensures bound { result ≤ 48 }
-    ensures before { (d : ℕ) → d < result → attains M.ring M.picks (said verdicts.now.words) goal (n - 1 - (place + 1)) place cell prefix total d ≡ false }
-    ensures found { result < 48 → attains M.ring M.picks (said verdicts.now.words) goal (n - 1 - (place + 1)) place cell prefix total result ≡ true }
-{
-    for next in 0..CELLS {
-        if verdicts.may(place, cell, next) {
-            let after = store.get(CELLS * (place + 1) + next);
-            let weight = then_step(prefix, cell, next).chain(after);
-            if weight.chooses(total) {
-                return next;
+impl<M: Choosing> Store<'_, M> {
+    /// The first cell by which the way goes on to a line of the total weight.
+    fn next_best(&self, place: usize, cell: usize, prefix: M, total: M) -> Option<usize>
+        requires { (self.now.from ≤ place + 1) × ((place + 1 < self.now.roster.now.places) × (cell < 48)) }
+        ensures { IsFirst (attains M.ring M.picks (way_of self.now.roster.now) self.now.goal (self.now.roster.now.places - 1 - (place + 1)) place cell prefix total) result }
+    {
+        for next in 0..CELLS {
+            if self.roster.verdicts.may(place, cell, next) {
+                let after = self.get(place + 1, next);
+                let weight = prefix.chain(step_between(cell, next)).chain(after);
+                if weight.chooses(total) {
+                    return Some(next);
+                }
             }
         }
+        None
     }
-    CELLS
-}
 
-/// The first start cell whose lines come to the total, for which the store is then filled; 48 if there is none.
-fn best_start<M: Choosing>(
-    store: &mut Store<'_, M>,
-    verdicts: &Verdicts,
-    n: usize,
-    total: M,
-) -> usize
-    requires bounds { (0 < n) × ((n ≤ 64) × (48 * n ≤ length store.old.cells.now)) }
-    ensures lender { store.new.cells.ghost_name ≡ store.old.cells.ghost_name }
-    ensures kept { Kept n store.old.cells.now store.new.cells.now }
-    ensures bound { result ≤ 48 }
-    ensures before { (c : ℕ) → c < result → M.picks (rest M.ring (said verdicts.now.words) c (n - 1) 0 c) total ≡ false }
-    ensures found { result < 48 → M.picks (rest M.ring (said verdicts.now.words) result (n - 1) 0 result) total ≡ true }
-    ensures filled { result < 48 → Filled M.ring (said verdicts.now.words) result n 0 store.new.cells.now }
-{
-    for start in 0..CELLS {
-        if weigh_from(store, verdicts, start, n).chooses(total) {
-            return start;
+    /// Writes the first line from the goal on that comes to the total.
+    fn trace(&self, total: M, line: &mut [u8])
+        requires bounds { (self.now.from ≡ 0) × (length line.old ≡ self.now.roster.now.places) }
+        requires some { M.picks M.ring.none total ≡ false }
+        requires attained { lines_from M.ring self.now.roster.now self.now.goal ≡ total }
+        ensures { best_from M.ring M.picks (way_of self.now.roster.now) (self.now.roster.now.places - 1) total self.now.goal ≡ Some line.new }
+    {
+        let mut cell = self.goal;
+        let mut prefix = M::ONE;
+        line[0] = cell as u8;
+        for place in 0..self.roster.places - 1 {
+            let next = self.next_best(place, cell, prefix, total).unwrap();
+            line[place + 1] = next as u8;
+            prefix = prefix.chain(step_between(cell, next));
+            cell = next;
         }
     }
-    CELLS
 }
 
-/// Writes the first line with a start cell that comes to the total, the store being filled for that cell.
-fn trace<M: Choosing>(
-    store: &Store<'_, M>,
-    verdicts: &Verdicts,
-    n: usize,
-    start: usize,
-    total: M,
-    line: &mut [u8],
-)
-    requires bounds { (0 < n) × ((n ≤ 64) × ((start < 48) × ((48 * n ≤ length store.now.cells.now) × (n ≤ length line.old)))) }
-    requires filled { Filled M.ring (said verdicts.now.words) start n 0 store.now.cells.now }
-    requires some { M.picks M.ring.none total ≡ false }
-    requires attained { rest M.ring (said verdicts.now.words) start (n - 1) 0 start ≡ total }
-    ensures line { best_from M.ring M.picks (said verdicts.now.words) (n - 1) total start ≡ Some (take n line.new) }
-    ensures beyond { drop n line.new ≡ drop n line.old }
-{
-    let mut cell = start;
-    let mut prefix = M::unit();
-    line[0] = start as u8;
-    for place in 0..n - 1 {
-        let next = next_best(store, verdicts, start, n, place, cell, prefix, total);
-        line[place + 1] = next as u8;
-        prefix = then_step(prefix, cell, next);
-        cell = next;
+impl Roster {
+    /// The first start cell whose lines come to the total, for which the cells are then filled.
+    fn best_start<M: Choosing>(&self, cells: &mut [M], total: M) -> Option<usize>
+        requires { length cells.old ≡ 48 * self.now.places }
+        ensures start { IsFirst (λ c. M.picks (lines_from M.ring self.now c) total) result }
+        ensures filled { IfSome result (λ start. Filled M.ring (way_of self.now) start self.now.places 0 cells.new) }
+    {
+        for start in 0..CELLS {
+            if self.fill(cells, start).chooses(total) {
+                return Some(start);
+            }
+        }
+        None
     }
 }
 
-/// Writes the first line of the joined weight, if there is a line at all, and says whether there is.
-fn trace_first<M: Choosing>(
-    store: &mut Store<'_, M>,
-    verdicts: &Verdicts,
-    n: usize,
-    line: &mut [u8],
-) -> bool
-    requires bounds { (0 < n) × ((n ≤ 64) × ((48 * n ≤ length store.old.cells.now) × (n ≤ length line.old))) }
-    ensures lender { store.new.cells.ghost_name ≡ store.old.cells.ghost_name }
-    ensures kept { Kept n store.old.cells.now store.new.cells.now }
-    ensures answer { result ≡ is_some (first_best M.ring M.picks n (roster (said verdicts.now.words) n)) }
-    ensures line { line.new ≡ written (first_best M.ring M.picks n (roster (said verdicts.now.words) n)) line.old }
-{
-    let total: M = weigh_all(store, verdicts, n);
-    if M::nothing().chooses(total) {
-        return false;
-    }
-    let start = best_start(store, verdicts, n, total);
-    trace(store, verdicts, n, start, total, line);
-    true
-}
-
-/// The same, asked of a passage, where there is room for the working values and the line.
+/// Writes the first line of the joined weight, if there is a line at all, and says whether there is, where
+/// there is room for the working values and the line.
 fn first_line<M: Choosing, P: Passage>(
     passage: &P,
     n: usize,
@@ -129,14 +84,27 @@ fn first_line<M: Choosing, P: Passage>(
     ensures line { line.new ≡ written (first_best M.ring M.picks n (roster (P.way passage.now) n)) line.old }
     ensures beyond { drop (48 * n) memory.new ≡ drop (48 * n) memory.old }
 {
-    let verdicts = Verdicts::of(passage, n);
-    let mut store = Store { cells: memory };
-    trace_first(&mut store, &verdicts, n, line)
+    let roster = Roster::of(passage, n);
+    let cells = &mut memory[..CELLS * n];
+    let total: M = roster.weigh(cells);
+    if M::NONE.chooses(total) {
+        return false;
+    }
+    let goal = roster.best_start(cells, total).unwrap();
+    let store = Store {
+        roster: &roster,
+        goal,
+        from: 0,
+        cells,
+    };
+    store.trace(total, &mut line[..n]);
+    true
 }
 
 /// Writes the first line of `n` cells that goes round and whose weight is the joined weight of all of them,
 /// and says whether there is one. Refuses where there are not 1 to 64 places, not 48 values of memory for
 /// each, or not `n` cells in the line buffer.
+// A bool and no Option, as the line itself stands in the buffer.
 pub fn first<M: Choosing, P: Passage>(
     passage: &P,
     n: usize,

@@ -11,16 +11,14 @@ pub const CELLS: usize = 48;
 /// The most places a line can have.
 pub const PLACES: usize = 64;
 
-const WORDS: usize = 3072;
-
-/// The verdicts of some passage, for 64 places: bit `d` of a word says whether `d` may follow.
+/// The verdicts of some passage: bit `d` of a place's word for a cell says whether the cell `d` may follow.
 #[derive(Clone, Copy)]
 pub struct Verdicts {
-    words: [u64; WORDS],
+    words: [[u64; CELLS]; PLACES],
 }
 
 /// What a passage says of all cells that may follow one cell.
-fn word_at<P: Passage>(passage: &P, place: usize, cell: usize) -> u64
+fn word_of<P: Passage>(passage: &P, place: usize, cell: usize) -> u64
     ensures { (d : ℕ) → d < 48 → bit result d ≡ P.way passage.now place cell d }
 {
     let mut word = 0;
@@ -30,15 +28,16 @@ fn word_at<P: Passage>(passage: &P, place: usize, cell: usize) -> u64
     word
 }
 
-/// The same, and no to all of them where the place is not one of the first `places`.
-fn word_within<P: Passage>(passage: &P, places: usize, place: usize, cell: usize) -> u64
-    ensures { (d : ℕ) → d < 48 → bit result d ≡ (nat_lt place places && P.way passage.now place cell d) }
+/// The words of all cells at a place.
+fn words_at<P: Passage>(passage: &P, place: usize) -> [u64; CELLS]
+    ensures { (c d : ℕ) → c < 48 → d < 48 → bit (slice_index result c) d ≡ P.way passage.now place c d }
 {
-    if place < places {
-        word_at(passage, place, cell)
-    } else {
-        0
+    // a loop, as std has no lemma for what `array::from_fn` gives
+    let mut words = [0; CELLS];
+    for cell in 0..CELLS {
+        words[cell] = word_of(passage, place, cell);
     }
+    words
 }
 
 /// Whether a word says yes to a cell.
@@ -54,9 +53,10 @@ impl Verdicts {
     pub fn of<P: Passage>(passage: &P, places: usize) -> Verdicts
         ensures { (t c d : ℕ) → said result.words t c d ≡ ((nat_lt t places && inside t c d) && P.way passage.now t c d) }
     {
-        let mut words = [0; WORDS];
-        for index in 0..WORDS {
-            words[index] = word_within(passage, places, index / CELLS, index % CELLS);
+        // by index, as no element is known after `iter_mut`
+        let mut words = [[0; CELLS]; PLACES];
+        for place in 0..places.min(PLACES) {
+            words[place] = words_at(passage, place);
         }
         Verdicts { words }
     }
@@ -64,9 +64,9 @@ impl Verdicts {
     /// The word of a place and a cell.
     pub(crate) fn word(&self, place: usize, cell: usize) -> u64
         requires { (place < 64) × (cell < 48) }
-        ensures { result ≡ slice_index self.now.words (48 * place + cell) }
+        ensures { (d : ℕ) → d < 48 → said self.now.words place cell d ≡ bit result d }
     {
-        self.words[CELLS * place + cell]
+        self.words[place][cell]
     }
 }
 
@@ -74,9 +74,6 @@ impl Passage for Verdicts {
     ghost way = { λ v. said v.words };
 
     fn may(&self, place: usize, cell: usize, next: usize) -> bool {
-        place < PLACES
-            && cell < CELLS
-            && next < CELLS
-            && says(self.words[CELLS * place + cell], next)
+        place < PLACES && cell < CELLS && next < CELLS && says(self.words[place][cell], next)
     }
 }

@@ -5,12 +5,11 @@ ghost use Rattle.engine.specs.Answers.{first_no, room_questions, unless};
 ghost use Rattle.engine.specs.Lines.{roster};
 ghost use Rattle.engine.specs.Weights.{joined_weight};
 
-use crate::fill::weigh_all;
 use crate::fit::room_for;
 use crate::passage::Passage;
-use crate::store::Store;
+use crate::roster::Roster;
 use crate::unfit::Unfit;
-use crate::verdicts::Verdicts;
+use crate::verdicts::CELLS;
 use measure::algebra::Measure;
 
 /// The joined weight where there is room for the working values.
@@ -19,9 +18,7 @@ fn weigh_lines<M: Measure, P: Passage>(passage: &P, n: usize, memory: &mut [M]) 
     ensures answer { result ≡ joined_weight M.ring n (roster (P.way passage.now) n) }
     ensures beyond { drop (48 * n) memory.new ≡ drop (48 * n) memory.old }
 {
-    let verdicts = Verdicts::of(passage, n);
-    let mut store = Store { cells: memory };
-    weigh_all(&mut store, &verdicts, n)
+    Roster::of(passage, n).weigh(&mut memory[..CELLS * n])
 }
 
 /// The joined weight of all lines of `n` cells that go round, none if there is none.

@@ -15,7 +15,6 @@ mod tests {
     use engine::unfit::*;
     use engine::weighing::weigh;
     use measure::movement::Movement;
-    use measure::moving::*;
     use measure::number::Number;
     use measure::possible::*;
     use std::test::Fail;
@@ -47,8 +46,8 @@ mod tests {
     fn none_and_one_place(rt: HostRuntime) -> Result<(), Fail> {
         let mut line = [99; 3];
         let mut bits = [Possible { found: true }; 144];
-        assert_eq!(rt; first(&Shut, 3, &mut bits, &mut line)?, false);
-        assert_eq!(rt; first(&Wide, 1, &mut bits, &mut line)?, true);
+        assert_eq!(rt; first(&Always(false), 3, &mut bits, &mut line)?, false);
+        assert_eq!(rt; first(&Always(true), 1, &mut bits, &mut line)?, true);
         assert!(rt; line[0] == 0 && line[1] == 99);
         Ok(())
     }
@@ -70,17 +69,17 @@ mod tests {
     fn refuses(rt: HostRuntime) -> Result<(), Fail> {
         let mut memory = [Number { value: 7 }; 48];
         let mut line = [99; 1];
-        assert_eq!(rt; weigh(&Wide, 1, &mut memory)?.value, 48);
+        assert_eq!(rt; weigh(&Always(true), 1, &mut memory)?.value, 48);
         assert_eq!(rt;
-            pick(&Wide, 1, &mut memory, &mut line, 1_000_000_000).err(),
+            pick(&Always(true), 1, &mut memory, &mut line, 1_000_000_000).err(),
             Some(Unfit::Number)
         );
         assert_eq!(rt;
-            pick(&Wide, 2, &mut memory, &mut line, 0).err(),
+            pick(&Always(true), 2, &mut memory, &mut line, 0).err(),
             Some(Unfit::Memory)
         );
         assert_eq!(rt;
-            pick(&Wide, 0, &mut memory, &mut line, 0).err(),
+            pick(&Always(true), 0, &mut memory, &mut line, 0).err(),
             Some(Unfit::Places)
         );
         Ok(())
@@ -90,8 +89,8 @@ mod tests {
     fn counts_to_the_cap(rt: HostRuntime) -> Result<(), Fail> {
         let mut memory = [Number { value: 0 }; 384];
         let mut line = [0; 8];
-        assert_eq!(rt; weigh(&Wide, 8, &mut memory)?.value, 1_000_000_000);
-        assert_eq!(rt; pick(&Wide, 8, &mut memory, &mut line, 49)?, true);
+        assert_eq!(rt; weigh(&Always(true), 8, &mut memory)?.value, 1_000_000_000);
+        assert_eq!(rt; pick(&Always(true), 8, &mut memory, &mut line, 49)?, true);
         assert!(rt; line[5] == 0 && line[6] == 1 && line[7] == 1);
         Ok(())
     }

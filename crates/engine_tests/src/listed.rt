@@ -1,31 +1,20 @@
 // Passages that are given by a list of what they let through.
 // Knows nothing of measures.
-ghost use Rattle.std.specs.Prelude.{true, false, ◌&&◌, ◌||◌, ◌==◌};
+ghost use Rattle.std.specs.Prelude.{◌&&◌, ◌||◌, ◌==◌};
 
 use engine::passage::Passage;
 
 /// Three places: from 0 to 2 or 4, from any to 0 or 6, and from any back to 0.
 pub struct Three;
 
-/// Lets nothing through.
-pub struct Shut;
+/// Lets everything through, or nothing.
+pub struct Always(pub bool);
 
-/// Lets everything through.
-pub struct Wide;
-
-impl Passage for Shut {
-    ghost way = { λ p t c d. false };
+impl Passage for Always {
+    ghost way = { λ always t c d. always.0 };
 
     fn may(&self, _place: usize, _cell: usize, _next: usize) -> bool {
-        false
-    }
-}
-
-impl Passage for Wide {
-    ghost way = { λ p t c d. true };
-
-    fn may(&self, _place: usize, _cell: usize, _next: usize) -> bool {
-        true
+        self.0
     }
 }
 

@@ -1,5 +1,6 @@
 // A measure of the tests' own, whose chaining does not commute.
 // Knows nothing of the engine.
+ghost use Rattle.std.specs.Prelude.{refl};
 ghost use Rattle.engine_tests.specs.Triangles.{triangle_ring};
 
 use measure::algebra::Measure;
@@ -28,15 +29,15 @@ impl Measure for Triangle {
         far: true,
     };
 
+    ghost NONE = { triangle_ring.none };
+
+    ghost ONE = { triangle_ring.one };
+
     ghost ring = { triangle_ring };
 
-    fn nothing() -> Triangle {
-        Self::NONE
-    }
+    ghost none_of_ring = { refl };
 
-    fn unit() -> Triangle {
-        Self::ONE
-    }
+    ghost one_of_ring = { refl };
 
     fn join(self, other: Triangle) -> Triangle {
         Triangle {

@@ -12,15 +12,12 @@ pub trait Measure: Copy {
     /// Chains with any value on either side and alters nothing.
     const ONE: Self;
 
+    // the constants' values in proofs, which the two laws below tie to the ring's
+    ghost NONE: { Self };
+
+    ghost ONE: { Self };
+
     ghost ring: { Ring Self };
-
-    /// The constant `NONE`, with what it means.
-    fn nothing() -> Self
-        ensures { result ≡ ring.none };
-
-    /// The constant `ONE`, with what it means.
-    fn unit() -> Self
-        ensures { result ≡ ring.one };
 
     /// Two values side by side.
     fn join(self, other: Self) -> Self
@@ -33,6 +30,10 @@ pub trait Measure: Copy {
     /// The value of a step of some size; steps of a line have sizes up to 23.
     fn step(size: u8) -> Self
         ensures { result ≡ ring.step size };
+
+    ghost none_of_ring: { NONE ≡ ring.none };
+
+    ghost one_of_ring: { ONE ≡ ring.one };
 }
 
 /// A measure whose joining is always one of the two values, and which tells the one.

@@ -3,8 +3,6 @@
 #![tactic(auto)]
 
 pub mod algebra;
-pub mod counting;
 pub mod movement;
-pub mod moving;
 pub mod number;
 pub mod possible;

@@ -1,5 +1,6 @@
 // Yes-or-no as a measure: is there a line at all?
 // Knows nothing of lines or cells.
+ghost use Rattle.std.specs.Prelude.{refl};
 ghost use Rattle.measure.specs.Possibles.{possible_ring, possibly};
 ghost use Rattle.measure.specs.Steps.{all_possible};
 ghost use Rattle.std.proofs.Common.{rules};
@@ -7,7 +8,7 @@ ghost use Rattle.std.proofs.Common.{rules};
 use crate::algebra::{Choosing, Measure};
 
 /// Yes or no.
-#[derive(Clone, Copy)]
+#[derive(Clone, Copy, PartialEq, Eq, PartialOrd, Ord, Debug)]
 pub struct Possible {
     /// Whether it is yes.
     pub found: bool,
@@ -18,15 +19,15 @@ impl Measure for Possible {
 
     const ONE: Possible = Possible { found: true };
 
+    ghost NONE = { possible_ring.none };
+
+    ghost ONE = { possible_ring.one };
+
     ghost ring = { possible_ring };
 
-    fn nothing() -> Possible {
-        Self::NONE
-    }
+    ghost none_of_ring = { refl };
 
-    fn unit() -> Possible {
-        Self::ONE
-    }
+    ghost one_of_ring = { refl };
 
     fn join(self, other: Possible) -> Possible {
         Possible {
@@ -55,6 +56,6 @@ impl Choosing for Possible {
     ghost lasting = { λ sizes short small none. all_possible sizes none };
 
     fn chooses(self, other: Possible) -> bool {
-        self.found | !other.found
+        self >= other
     }
 }

@@ -1,7 +1,11 @@
-use Rattle.std.proofs.Common.{◌≡◌, ℕ, ◌/◌, ◌%◌, ◌<◌, ◌&&◌, ltb, length, get_or}
+use Rattle.std.proofs.Common.{◌≡◌, ℕ, ◌<◌, ◌≤◌, false, [], length, get_or}
 use Rattle.engine.specs.Words.{bit}
 use Rattle.engine.proofs.verdicts.Verdicts.of.Given as goal
 
-abbrev pub invariant-loop-index : goal.invariant-loop-index
-invariant-loop-index g l =
-    (length l.words ≡ 3072) × ((i d : ℕ) → i < l.index → d < 48 → bit (get_or l.words i 0) d ≡ (ltb (i / 48) l.places && g.P.Passage.way l.passage (i / 48) (i % 48) d))
+abbrev pub invariant-loop-place : goal.invariant-loop-place
+invariant-loop-place g l =
+    record {
+      whole : length l.words ≡ 64;
+      asked : (t c d : ℕ) → t < l.place → c < 48 → d < 48 → bit (get_or (get_or l.words t []) c 0) d ≡ g.P.Passage.way l.passage t c d;
+      unasked : (t c d : ℕ) → l.place ≤ t → t < 64 → c < 48 → bit (get_or (get_or l.words t []) c 0) d ≡ false;
+    }

@@ -1,6 +1,0 @@
-use Rattle.std.proofs.Common.{arith}
-use Rattle.measure.specs.Numbers.{same_number}
-use Rattle.measure.proofs.counting.NumberMeasure.chain.Goals as goal
-
-pub returns : goal.returns
-returns c = same_number _ _ (omega arith)
