@@ -1,5 +1,5 @@
 // Puts the questions to a closed sheet and holds each answer against the second engine's.
-use crate::case::{Case, ROOM};
+use crate::case::{Case, MOST, ROOM};
 use crate::judging::{beginning, judge, least_moved, movement, string, strings};
 use anyhow::ensure;
 use counterpoint::book::Book;
@@ -15,12 +15,12 @@ use rules::trial::Trial;
 use sheet::draft::Closed;
 use standing::checking::check;
 use standing::compass::Compass;
-use std::alloc::{AllocError, Global};
+use std::alloc::Global;
 
 /// How many picks are asked in each case, besides the last line and the one after it.
 const PICKS: u32 = 8;
 
-/// The sum of step sizes that stands for no line.
+/// The sum of step sizes that the rules of the measure name for no line.
 const NO_LINE: u32 = 1_000_000;
 
 /// What the questions are asked of, and the case that it comes from.
@@ -33,20 +33,16 @@ pub struct Asked<'a, B> {
     pub compass: &'a Compass,
 }
 
-// Whether a question found the line that was expected, or was refused as expected and wrote nothing.
+// Whether a question answered as it was expected to, and wrote the expected line, or none, and nothing behind it.
 fn agrees(told: Result<(), Refusal>, written: &[u8], expected: Result<&Vec<u8>, Refusal>) -> bool {
-    match expected {
-        Ok(line) => told.is_ok() && written == line.as_slice(),
-        Err(refusal) => told == Err(refusal) && written.iter().all(|cell| *cell == 0),
-    }
+    let line = expected.map(Vec::as_slice).unwrap_or_default();
+    told == expected.map(|_| ())
+        && written
+            .strip_prefix(line)
+            .is_some_and(|rest| rest.iter().all(|cell| *cell == 0))
 }
 
 impl<B: Book> Asked<'_, B> {
-    // A line buffer, in which nothing is written.
-    fn blank_line(&self) -> Result<Vec<u8>, AllocError> {
-        Ok(vec![in self.heap; 0; self.case.places.len()]?)
-    }
-
     // Compares what check says of a string of cells, and says whether it stands.
     fn compare_check(&self, cells: &[u8]) -> anyhow::Result<bool> {
         let judged = judge(self.case, cells);
@@ -83,7 +79,7 @@ impl<B: Book> Asked<'_, B> {
     // Compares decide, and weigh over yes and no.
     fn compare_first(&self, lines: &[Vec<u8>]) -> anyhow::Result<()> {
         let mut memory = [Possible::NONE; ROOM];
-        let mut line = self.blank_line()?;
+        let mut line = [0; MOST];
         let told = decide(self.sheet, self.book, self.compass, &mut memory, &mut line);
         let first = lines.first().ok_or(Refusal::NoLineStands);
         ensure!(agrees(told, &line, first), "decide disagrees");
@@ -105,8 +101,9 @@ impl<B: Book> Asked<'_, B> {
 
     // Compares least, and weigh over movements.
     fn compare_least(&self, lines: &[Vec<u8>]) -> anyhow::Result<()> {
-        let mut memory = [Movement::NONE; ROOM];
-        let mut line = self.blank_line()?;
+        // what the memory has before is not to matter, so it is not none here
+        let mut memory = [Movement::ONE; ROOM];
+        let mut line = [0; MOST];
         let told = least(self.sheet, self.book, self.compass, &mut memory, &mut line);
         let best = least_moved(lines);
         let expected = best.ok_or(Refusal::NoLineStands);
@@ -120,7 +117,7 @@ impl<B: Book> Asked<'_, B> {
     // Compares the line with one number.
     fn compare_pick(&self, lines: &[Vec<u8>], number: u32) -> anyhow::Result<()> {
         let mut memory = [Number::NONE; ROOM];
-        let mut line = self.blank_line()?;
+        let mut line = [0; MOST];
         let told = pick(
             self.sheet,
             self.book,
@@ -151,13 +148,10 @@ impl<B: Book> Asked<'_, B> {
 
     // Compares the count under a trial of a first key, where the case has no trial of its own.
     fn compare_trying(&self, lines: &[Vec<u8>]) -> anyhow::Result<()> {
-        let middle = lines.get(lines.len() / 2);
-        let Some(cell) = middle.and_then(|line| line.first()) else {
+        let middle = lines.get(lines.len() / 2).and_then(|line| line.first());
+        let (None, Some(cell)) = (self.case.trial, middle) else {
             return Ok(());
         };
-        if self.case.trial.is_some() {
-            return Ok(());
-        }
         let key = cell / 2;
         let trial = Trial { place: 0, key };
         let number = u32::try_from(beginning(lines, key))?;

@@ -8,7 +8,7 @@ use rules::combination::Combination;
 use rules::trial::Trial;
 
 /// The most places of a case.
-const MOST: usize = 4;
+pub const MOST: usize = 4;
 
 /// How many working values the questions need for so many places.
 pub const ROOM: usize = 48 * MOST;

@@ -9,7 +9,7 @@ pub struct Dice {
 
 impl Dice {
     /// A number below a bound.
-    pub fn below(&mut self, bound: u8) -> u8
+    pub(crate) fn below(&mut self, bound: u8) -> u8
         requires { 0 < bound }
         ensures { result < bound }
     {
@@ -21,7 +21,7 @@ impl Dice {
     }
 
     /// Whether the one chance among so many comes.
-    pub fn chance(&mut self, among: u8) -> bool
+    pub(crate) fn chance(&mut self, among: u8) -> bool
         requires { 0 < among }
     {
         self.below(among) == 0

@@ -64,9 +64,15 @@ impl fmt::Display for Family {
 #[derive(Clone, Copy, Default)]
 pub struct Tally {
     /// How many strings of cells were tried.
-    pub tried: u32,
+    pub tried: usize,
     /// How many of those in the compasses stood.
     pub stood: usize,
+}
+
+impl fmt::Display for Tally {
+    fn fmt<W: fmt::Write>(&self, f: &mut fmt::Formatter<W>) -> fmt::Result {
+        write!(f, "{} tried, {} stand", self.tried, self.stood)
+    }
 }
 
 // Compares one case over a book, and says how many strings stood.
@@ -94,7 +100,7 @@ fn layer<B: Book + Drop>(book: B, shift: i32) -> anyhow::Result<Vertical<B>> {
         .context("a layer is refused")
 }
 
-// Compares one case over a book under the outer layer of the case.
+// Compares one case over a book under the outer layer of the case. Each layer is another type of book.
 fn compare_outside<B: Book + Drop>(heap: Global, case: &Case, book: B) -> anyhow::Result<usize> {
     match case.rules.outer {
         Some(shift) => compare_over(heap, case, &layer(book, shift)?),
@@ -117,13 +123,13 @@ fn compare_next(heap: Global, dice: &mut Dice, family: Family) -> anyhow::Result
         Base::Strict => compare_under(heap, &case, Strict)?,
         Base::Free => compare_under(heap, &case, Free)?,
     };
-    let strays = u32::try_from(case.strays.len())?;
-    let tried = strings(&case).saturating_add(strays);
+    let tried = case.strays.len().saturating_add(strings(&case) as usize);
     Ok(Tally { tried, stood })
 }
 
 /// Compares every case of a family.
 pub fn compare_family(heap: Global, family: Family) -> anyhow::Result<Tally> {
+    // the kind of the books counts only here, so that each family has dice of its own
     let state = u32::from(family.size.places) * 3 + family.shelf as u32;
     let mut dice = Dice { state };
     let mut tally = Tally::default();

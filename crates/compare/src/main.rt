@@ -51,13 +51,15 @@ fn run_large(rt: &HostRuntime) -> anyhow::Result<()> {
         longest,
         longer,
     } = fill_sheet(rt.alloc())?;
-    let number = pick_free(&sheet, &compass).map_or_else(|refusal| refusal.number(), |()| 0);
+    let number = pick_free(&sheet, &compass)
+        .err()
+        .map_or(0, |refusal| refusal.number());
     let count = count_free(&sheet, &compass)
         .ok()
         .context("count is refused")?;
-    let longest = longest.map_or_else(|refusal| refusal.number(), |()| 0);
-    let longer = longer.map_or_else(|refusal| refusal.number(), |()| 0);
-    let ninth = fill_list(sheet).map_or_else(|refusal| refusal.number(), |()| 0);
+    let longest = longest.err().map_or(0, |refusal| refusal.number());
+    let longer = longer.err().map_or(0, |refusal| refusal.number());
+    let ninth = fill_list(sheet).err().map_or(0, |refusal| refusal.number());
     println!(rt; "refused: 64 places {longest}, 65 places {longer}, ninth combination {ninth}")?;
     println!(rt; "refused: number 1000000000 {number}")?;
     println!(rt; "64 places over the free book: {count} lines")?;
@@ -72,12 +74,8 @@ fn run(rt: &HostRuntime) -> anyhow::Result<()> {
         .flat_map(|size| SHELVES.map(|shelf| Family { shelf, size: *size }));
     for family in families {
         print!(rt; "{family}: ")?;
-        let cases = family.size.cases;
         match compare_family(rt.alloc(), family) {
-            Ok(tally) => {
-                let (tried, stood) = (tally.tried, tally.stood);
-                println!(rt; "{cases} cases, {tried} tried, {stood} stand")?;
-            }
+            Ok(tally) => println!(rt; "{} cases, {tally}", family.size.cases)?,
             Err(error) => {
                 println!(rt; "{error}")?;
                 return Ok(());

@@ -90,7 +90,7 @@ fn make_keys(dice: &mut Dice, count: u8) -> Keys
     requires { (0 < count) × (count ≤ 24) }
 {
     let lowest = dice.below(25 - count);
-    let highest = lowest + (count - 1);
+    let highest = lowest + count - 1;
     Keys { lowest, highest }
 }
 

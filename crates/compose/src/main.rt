@@ -19,6 +19,7 @@ fn run(rt: &HostRuntime) -> anyhow::Result<()> {
         println!(rt; "refused{:>4}", refusal.number())?;
         return Ok(());
     }
+    // the writer fills a lent buffer and answers how much of it
     let mut out = [0; LONGEST];
     let length = theme.write(&mut out).ok().context("writing the page")?;
     rt.stdout().write_all(&out[..length])?;

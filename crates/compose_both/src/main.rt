@@ -62,6 +62,7 @@ fn write_both(heap: Global, sheet: &Closed) -> Result<Vec<u8>, Halt> {
     let compass = Compass::new(0, 23)?;
     least(sheet, &Strict, &compass, &mut memory, &mut line)?;
     let cells = &line[..sheet.theme().len()];
+    // the writer fills a lent buffer and answers how much of it
     let mut out = vec![in heap; 0; LONGEST]?;
     let first = write_combination(sheet, cells, 0, &mut out)?;
     let second = write_combination(sheet, cells, 1, &mut out[first..])?;

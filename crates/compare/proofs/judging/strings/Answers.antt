@@ -1,4 +1,4 @@
-use Rattle.std.proofs.Common.{rules, lit<, lit≤, ◌*◌, ◌≤◌, le_trans, lt_of_le_of_lt}
+use Rattle.std.proofs.Common.{rules, lit<, ◌*◌, ◌≤◌, le_trans, lt_of_le_of_lt}
 use Rattle.std.proofs.Math.Nat.{pow-le-pow_left, pow-le-pow_right}
 use Rattle.compare.proofs.judging.strings.Goals as goal
 
