@@ -1,6 +1,6 @@
 // What one comparison is about: a theme, a list, fixed keys, a compass and rules, as plain values.
 // Knows nothing of sheets.
-ghost use Rattle.std.specs.Prelude.{◌≤◌};
+ghost use Rattle.std.specs.Prelude.{◌+◌, ◌-◌, ◌<◌, ◌≤◌, ◌≡◌, vec_len};
 
 use crate::restated::Rules;
 use counterpoint::moments::{Accent, Voice};
@@ -11,53 +11,58 @@ use rules::trial::Trial;
 pub const MOST: usize = 4;
 
 /// How many working values the questions need for so many places.
-pub const ROOM: usize = 192;
+pub const ROOM: usize = 48 * MOST;
 
-/// Cells, of which those past the last place are 0.
-pub type Line = [u8; MOST];
-
-/// What a theme has at a place.
+/// What there is at a place: a key of the theme, how it sounds, and the key fixed there, if any.
 #[derive(Clone, Copy)]
-pub struct Note {
+pub struct Place {
     pub key: u8,
     pub voice: Voice,
     pub accent: Accent,
+    pub fixed: Option<u8>,
+}
+
+/// The keys that a line may use.
+#[derive(Clone, Copy)]
+pub struct Keys {
+    pub lowest: u8,
+    pub highest: u8,
+    ghost ordered: { lowest ≤ highest },
+    ghost within: { highest ≤ 23 },
+}
+
+impl Keys {
+    /// Whether a key is one of them.
+    pub fn contains(self, key: u8) -> bool {
+        self.lowest <= key && key <= self.highest
+    }
+
+    /// How many there are.
+    pub fn count(self) -> u8
+        ensures { result ≡ self.highest - self.lowest + 1 }
+    {
+        self.highest - self.lowest + 1
+    }
 }
 
 /// What one comparison is about.
 #[derive(Drop)]
 pub struct Case {
-    pub notes: Vec<Note>,
+    pub places: Vec<Place>,
     pub bar: u8,
     pub combinations: Vec<Combination>,
-    pub fixings: Vec<Option<u8>>,
-    pub lowest: u8,
-    pub highest: u8,
+    pub keys: Keys,
     pub trial: Option<Trial>,
     pub rules: Rules,
+    /// Strings of cells of any kind, to be judged besides those in the compass.
+    pub strays: Vec<Vec<u8>>,
+    ghost inhabited: { 0 < vec_len places },
+    ghost few: { vec_len places ≤ 4 },
 }
 
 impl Case {
-    /// How many places the theme has.
-    pub fn places(&self) -> usize
-        ensures { result ≤ 4 }
-    {
-        self.notes.len().min(MOST)
-    }
-
-    /// What the theme has at a place, counted round the barrel.
-    pub fn note(&self, place: usize) -> Note {
-        let none = Note {
-            key: 0,
-            voice: Voice::Struck,
-            accent: Accent::Strong,
-        };
-        let place = place.checked_rem(self.notes.len()).unwrap_or(0);
-        self.notes.get(place).copied().unwrap_or(none)
-    }
-
-    /// How many cells have a key of the compass.
-    pub fn width(&self) -> u32 {
-        2 * (u32::from(self.highest.saturating_sub(self.lowest)) + 1)
+    /// What there is at a place, counted round the barrel.
+    pub fn place(&self, place: usize) -> Place {
+        self.places[place % self.places.len()]
     }
 }

@@ -11,90 +11,78 @@ mod making;
 mod restated;
 mod sheets;
 
-use family::{Family, Shelf, Tally, compare_family};
+use anyhow::Context;
+use family::{Family, Shelf, Size, compare_family};
 use large::{Large, count_free, fill_list, fill_sheet, pick_free};
 use standing::compass::Compass;
-use std::alloc::Global;
-use std::io;
 
-/// The books of each number of places.
+/// The books of each size of cases.
 const SHELVES: [Shelf; 3] = [Shelf::Strict, Shelf::Free, Shelf::Layered];
 
-// Compares the cases of one family and says how many there were, or which disagrees.
-fn run_family(rt: &HostRuntime, heap: Global, family: Family) -> io::Result<bool> {
-    let mut tally = Tally {
-        cases: 0,
-        tried: 0,
-        stood: 0,
-    };
-    let result = compare_family(heap, family, &mut tally);
-    let Family { places, keys, .. } = family;
-    let Tally {
-        cases,
-        tried,
-        stood,
-    } = tally;
-    let books = match family.shelf {
-        Shelf::Strict => "strict book",
-        Shelf::Free => "free book",
-        Shelf::Layered => "layered books",
-    };
-    print!(rt; "{books}, places {places}, keys {keys}: ")?;
-    match result {
-        Ok(()) => {
-            println!(rt; "{cases} cases, {tried} tried, {stood} stand")?;
-            Ok(true)
-        }
-        Err(error) => {
-            println!(rt; "after {cases} cases {error}")?;
-            Ok(false)
-        }
-    }
-}
+/// The sizes of cases.
+const SIZES: [Size; 4] = [
+    Size {
+        places: 1,
+        keys: 24,
+        cases: 100,
+    },
+    Size {
+        places: 2,
+        keys: 24,
+        cases: 60,
+    },
+    Size {
+        places: 3,
+        keys: 10,
+        cases: 60,
+    },
+    Size {
+        places: 4,
+        keys: 7,
+        cases: 40,
+    },
+];
 
-// Compares the families with so many places, and says whether they agree.
-fn run_places(rt: &HostRuntime, places: u8, keys: u8, cases: u32) -> io::Result<bool> {
-    for shelf in SHELVES {
-        let family = Family {
-            shelf,
-            places,
-            keys,
-            cases,
-        };
-        if !run_family(rt, rt.alloc(), family)? {
-            return Ok(false);
-        }
-    }
-    Ok(true)
-}
-
-// Says what the calls answer at the ends of their ranges.
-fn run_large(rt: &HostRuntime, compass: &Compass) -> anyhow::Result<()> {
+// Says what the calls answer at the ends of their ranges, each refusal by its number, 0 where there is none.
+fn run_large(rt: &HostRuntime) -> anyhow::Result<()> {
+    let compass = Compass::new(0, 23).ok().context("the compass is refused")?;
     let Large {
         sheet,
         longest,
         longer,
     } = fill_sheet(rt.alloc())?;
-    let number = pick_free(&sheet, compass);
-    let count = count_free(&sheet, compass);
-    let ninth = fill_list(sheet);
+    let number = pick_free(&sheet, &compass)
+        .err()
+        .map_or(0, |refusal| refusal.number());
+    let count = count_free(&sheet, &compass)
+        .ok()
+        .context("count is refused")?;
+    let longest = longest.err().map_or(0, |refusal| refusal.number());
+    let longer = longer.err().map_or(0, |refusal| refusal.number());
+    let ninth = fill_list(sheet).err().map_or(0, |refusal| refusal.number());
     println!(rt; "refused: 64 places {longest}, 65 places {longer}, ninth combination {ninth}")?;
     println!(rt; "refused: number 1000000000 {number}")?;
     println!(rt; "64 places over the free book: {count} lines")?;
     Ok(())
 }
 
+// Compares each family of cases, up to the first that disagrees.
 fn run(rt: &HostRuntime) -> anyhow::Result<()> {
-    if let Ok(compass) = Compass::new(0, 23) {
-        run_large(rt, &compass)?;
+    run_large(rt)?;
+    let families = SIZES
+        .iter()
+        .flat_map(|size| SHELVES.map(|shelf| Family { shelf, size: *size }));
+    for family in families {
+        print!(rt; "{family}: ")?;
+        match compare_family(rt.alloc(), family) {
+            Ok(tally) => println!(rt; "{} cases, {tally}", family.size.cases)?,
+            Err(error) => {
+                println!(rt; "{error}")?;
+                return Ok(());
+            }
+        }
     }
-    let agree = run_places(rt, 1, 24, 100)?
-        && run_places(rt, 2, 24, 60)?
-        && run_places(rt, 3, 10, 60)?
-        && run_places(rt, 4, 7, 40)?;
-    if agree {
-        println!(rt; "all agree")?;
-    }
+    println!(rt; "all agree")?;
     Ok(())
 }
 

@@ -1,19 +1,28 @@
 // Makes cases by dice. Knows nothing of what stands.
-use crate::case::{Case, Note};
+ghost use Rattle.std.specs.Prelude.{◌≡◌, ◌<◌, ◌≤◌, IfOk, vec_len};
+
+use crate::case::{Case, Keys, Place};
 use crate::dice::Dice;
 use crate::family::{Family, Shelf};
-use crate::restated::{Base, Layers, Rules};
+use crate::restated::{Base, Rules};
 use counterpoint::moments::{Accent, Voice};
 use rules::combination::{Combination, ORIGINAL};
 use rules::trial::Trial;
 use std::alloc::{AllocError, Global};
 
+/// How many stray strings there are in each case.
+const STRAYS: u32 = 40;
+
 // A bar length for so many places.
-fn make_bar(dice: &mut Dice, places: u8) -> u8 {
-    let bar = dice.below(places).saturating_add(1);
-    match places.checked_rem(bar) {
-        Some(0) => bar,
-        _ => places,
+fn make_bar(dice: &mut Dice, places: u8) -> u8
+    requires { 0 < places }
+    ensures { 0 < result }
+{
+    let bar = dice.below(places) + 1;
+    if places.is_multiple_of(bar) {
+        bar
+    } else {
+        places
     }
 }
 
@@ -25,11 +34,14 @@ fn next_key(dice: &mut Dice, before: u8) -> u8 {
         .min(23)
 }
 
-// The notes of a theme: pins, and bridges behind some of them.
-fn make_notes(heap: Global, dice: &mut Dice, places: u8, bar: u8) -> Result<Vec<Note>, AllocError> {
-    let mut notes = Vec::new(heap);
-    let mut key = dice.below(16).saturating_add(4);
-    for place in 0..places {
+// The places of a theme: pins, and bridges behind some of them. No key is fixed yet.
+fn make_places(heap: Global, dice: &mut Dice, count: u8, bar: u8) -> Result<Vec<Place>, AllocError>
+    requires { 0 < bar }
+    ensures { IfOk result (λ places. vec_len places ≡ count) }
+{
+    let mut places = Vec::new(heap);
+    let mut key = dice.below(16) + 4;
+    for place in 0..count {
         let voice = if place > 0 && dice.chance(4) {
             Voice::Held
         } else {
@@ -38,13 +50,19 @@ fn make_notes(heap: Global, dice: &mut Dice, places: u8, bar: u8) -> Result<Vec<
         if place > 0 && matches!(voice, Voice::Struck) {
             key = next_key(dice, key);
         }
-        let accent = match place.checked_rem(bar) {
-            Some(0) => Accent::Strong,
-            _ => Accent::Weak,
+        let accent = if place.is_multiple_of(bar) {
+            Accent::Strong
+        } else {
+            Accent::Weak
         };
-        notes.push(Note { key, voice, accent })?;
+        places.push(Place {
+            key,
+            voice,
+            accent,
+            fixed: None,
+        })?;
     }
-    Ok(notes)
+    Ok(places)
 }
 
 // A list of combinations, none of them twice.
@@ -52,9 +70,10 @@ fn make_combinations(
     heap: Global,
     dice: &mut Dice,
     places: u8,
-) -> Result<Vec<Combination>, AllocError> {
-    let mut combinations = Vec::new(heap);
-    combinations.push(ORIGINAL)?;
+) -> Result<Vec<Combination>, AllocError>
+    requires { 0 < places }
+{
+    let mut combinations = vec![in heap; ORIGINAL]?;
     for _ in 0..dice.below(3) {
         let jv = dice.shift();
         let entry = usize::from(dice.below(places));
@@ -66,35 +85,40 @@ fn make_combinations(
     Ok(combinations)
 }
 
-// For each place a fixed key or none; now and then the key lies outside the compass.
-fn make_fixings(
-    heap: Global,
-    dice: &mut Dice,
-    places: u8,
-    lowest: u8,
-    keys: u8,
-) -> Result<Vec<Option<u8>>, AllocError> {
-    let mut fixings = Vec::new(heap);
-    for _ in 0..places {
-        let fixing = if !dice.chance(8) {
-            None
-        } else if dice.chance(8) {
-            Some(dice.below(24))
-        } else {
-            Some(lowest.saturating_add(dice.below(keys)))
-        };
-        fixings.push(fixing)?;
+// The keys of a compass of so many.
+fn make_keys(dice: &mut Dice, count: u8) -> Keys
+    requires { (0 < count) × (count ≤ 24) }
+{
+    let lowest = dice.below(25 - count);
+    let highest = lowest + count - 1;
+    Keys { lowest, highest }
+}
+
+// A key of a compass.
+fn make_key(dice: &mut Dice, keys: Keys) -> u8 {
+    keys.lowest + dice.below(keys.count())
+}
+
+// A fixed key or none; now and then the key lies outside the compass.
+fn make_fixing(dice: &mut Dice, keys: Keys) -> Option<u8> {
+    if !dice.chance(8) {
+        None
+    } else if dice.chance(8) {
+        Some(dice.below(24))
+    } else {
+        Some(make_key(dice, keys))
     }
-    Ok(fixings)
 }
 
 // A trial or none.
-fn make_trial(dice: &mut Dice, places: u8, lowest: u8, keys: u8) -> Option<Trial> {
+fn make_trial(dice: &mut Dice, places: u8, keys: Keys) -> Option<Trial>
+    requires { 0 < places }
+{
     if !dice.chance(5) {
         return None;
     }
     let place = usize::from(dice.below(places));
-    let key = lowest.saturating_add(dice.below(keys));
+    let key = make_key(dice, keys);
     Some(Trial { place, key })
 }
 
@@ -106,39 +130,58 @@ fn make_rules(dice: &mut Dice, shelf: Shelf) -> Rules {
         Shelf::Layered if dice.chance(2) => Base::Strict,
         Shelf::Layered => Base::Free,
     };
-    let layers = match shelf {
-        Shelf::Strict | Shelf::Free => Layers::Bare,
-        Shelf::Layered if dice.chance(2) => {
-            let shift = dice.shift();
-            Layers::One { shift }
-        }
-        Shelf::Layered => {
-            let inner = dice.shift();
-            let outer = dice.shift();
-            Layers::Two { inner, outer }
-        }
+    let (inner, outer) = match shelf {
+        Shelf::Strict | Shelf::Free => (None, None),
+        Shelf::Layered if dice.chance(2) => (Some(dice.shift()), None),
+        Shelf::Layered => (Some(dice.shift()), Some(dice.shift())),
     };
-    Rules { base, layers }
+    Rules { base, inner, outer }
+}
+
+// A string of cells of any kind, of which many hold the key before.
+fn make_stray(heap: Global, dice: &mut Dice, places: u8) -> Result<Vec<u8>, AllocError> {
+    let mut line = Vec::new(heap);
+    let mut before = 0;
+    for _ in 0..places {
+        before = match dice.below(8) {
+            0 => dice.below(255),
+            1..=3 => before | 1,
+            _ => 2 * dice.below(24),
+        };
+        line.push(before)?;
+    }
+    Ok(line)
+}
+
+// As many stray strings as a case has.
+fn make_strays(heap: Global, dice: &mut Dice, places: u8) -> Result<Vec<Vec<u8>>, AllocError> {
+    let mut strays = Vec::new(heap);
+    for _ in 0..STRAYS {
+        strays.push(make_stray(heap, dice, places)?)?;
+    }
+    Ok(strays)
 }
 
 /// A case of a family.
 pub fn make_case(heap: Global, dice: &mut Dice, family: Family) -> Result<Case, AllocError> {
-    let Family { places, keys, .. } = family;
-    let bar = make_bar(dice, places);
-    let notes = make_notes(heap, dice, places, bar)?;
-    let combinations = make_combinations(heap, dice, places)?;
-    let lowest = dice.below(25u8.saturating_sub(keys));
-    let fixings = make_fixings(heap, dice, places, lowest, keys)?;
-    let trial = make_trial(dice, places, lowest, keys);
+    let count = family.size.places;
+    let bar = make_bar(dice, count);
+    let mut places = make_places(heap, dice, count, bar)?;
+    let combinations = make_combinations(heap, dice, count)?;
+    let keys = make_keys(dice, family.size.keys);
+    for place in places.iter_mut() {
+        place.fixed = make_fixing(dice, keys);
+    }
+    let trial = make_trial(dice, count, keys);
     let rules = make_rules(dice, family.shelf);
+    let strays = make_strays(heap, dice, count)?;
     Ok(Case {
-        notes,
+        places,
         bar,
         combinations,
-        fixings,
-        lowest,
-        highest: lowest.saturating_add(keys).saturating_sub(1),
+        keys,
         trial,
         rules,
+        strays,
     })
 }

@@ -9,19 +9,14 @@ pub enum Base {
     Free,
 }
 
-/// The layers over a book, from none to two.
-#[derive(Clone, Copy)]
-pub enum Layers {
-    Bare,
-    One { shift: i32 },
-    Two { inner: i32, outer: i32 },
-}
-
-/// The rules of a book under its layers.
+/// The rules of a book under at most two layers, each of which has a shift.
 #[derive(Clone, Copy)]
 pub struct Rules {
     pub base: Base,
-    pub layers: Layers,
+    /// The layer over the base.
+    pub inner: Option<i32>,
+    /// The layer over that one.
+    pub outer: Option<i32>,
 }
 
 // The class of an interval.
@@ -127,20 +122,17 @@ impl Base {
 }
 
 impl Rules {
+    // Whether the inner layer says yes with the line raised: as the base does to it, and to it raised once more.
+    fn agrees_inside(self, succession: Succession, by: i32) -> bool {
+        self.base.agrees(succession, by)
+            && self.inner.is_none_or(|shift| self.base.agrees(succession, by.wrapping_add(shift)))
+    }
+
     /// Whether a succession is allowed and its first moment admitted, under all layers.
     pub fn agrees(self, succession: Succession) -> bool {
-        let base = self.base;
-        match self.layers {
-            Layers::Bare => base.agrees(succession, 0),
-            Layers::One { shift } => {
-                base.agrees(succession, 0) && base.agrees(succession, shift)
-            }
-            Layers::Two { inner, outer } => {
-                base.agrees(succession, 0)
-                    && base.agrees(succession, inner)
-                    && base.agrees(succession, outer)
-                    && base.agrees(succession, inner.wrapping_add(outer))
-            }
-        }
+        self.agrees_inside(succession, 0)
+            && self
+                .outer
+                .is_none_or(|shift| self.agrees_inside(succession, shift))
     }
 }

@@ -1,7 +1,7 @@
 // Brings a case to a closed sheet and a compass, by the calls and with detours that leave no trace.
 // Knows nothing of lines.
-use crate::case::{Case, Note};
-use anyhow::anyhow;
+use crate::case::{Case, Place};
+use anyhow::Context;
 use counterpoint::moments::Voice;
 use rules::combination::Combination;
 use rules::refusal::Refusal;
@@ -9,19 +9,19 @@ use rules::trial::Trial;
 use sheet::draft::{Closed, Draft};
 use standing::compass::Compass;
 use std::alloc::{AllocError, Global};
+use std::fmt::Write;
 
 /// The page of a theme.
-pub fn page(heap: Global, bar: u8, notes: &[Note]) -> Result<String, AllocError> {
-    let places = notes.len();
-    let mut text = format!(in heap; "{places:>4}{bar:>4}\n")?;
-    for (place, note) in notes.iter().enumerate() {
-        let key = note.key;
-        let mark = match note.voice {
+pub fn page(heap: Global, bar: u8, places: &[Place]) -> Result<String, AllocError> {
+    let count = places.len();
+    let mut text = format!(in heap; "{count:>4}{bar:>4}\n")?;
+    for (number, place) in places.iter().enumerate() {
+        let key = place.key;
+        let mark = match place.voice {
             Voice::Struck => 'p',
             Voice::Held => 'b',
         };
-        let row = format!(in heap; "{place:>4}{key:>4} {mark}\n")?;
-        text.push_str(row.as_str())?;
+        writeln!(text, "{number:>4}{key:>4} {mark}")?;
     }
     Ok(text)
 }
@@ -29,19 +29,19 @@ pub fn page(heap: Global, bar: u8, notes: &[Note]) -> Result<String, AllocError>
 // Adds the listed combinations but the original.
 fn add_all(draft: &mut Draft, combinations: &[Combination]) -> Result<(), Refusal> {
     for combination in combinations.iter().skip(1) {
-        let entry = (combination.entry & 0xff) as i32;
+        let entry = i32::try_from(combination.entry).map_err(|_| Refusal::EntryOutOfRange)?;
         draft.add(combination.jv, entry)?;
     }
     Ok(())
 }
 
 // Fixes every place, and then fixes it again or frees it.
-fn fix_all(draft: &mut Draft, fixings: &[Option<u8>]) -> Result<(), Refusal> {
-    for (place, fixing) in fixings.iter().enumerate() {
-        draft.fix(place, 5)?;
-        match fixing {
-            Some(key) => draft.fix(place, *key)?,
-            None => draft.free(place)?,
+fn fix_all(draft: &mut Draft, places: &[Place]) -> Result<(), Refusal> {
+    for (number, place) in places.iter().enumerate() {
+        draft.fix(number, 5)?;
+        match place.fixed {
+            Some(key) => draft.fix(number, key)?,
+            None => draft.free(number)?,
         }
     }
     Ok(())
@@ -53,26 +53,24 @@ fn change_all(draft: &mut Draft, case: &Case) -> Result<(), Refusal> {
     draft.add(23, 0)?;
     add_all(draft, &case.combinations)?;
     draft.drop(23, 0)?;
-    fix_all(draft, &case.fixings)
+    fix_all(draft, &case.places)
 }
 
 /// The closed sheet of a case.
 pub fn closed_sheet(heap: Global, case: &Case) -> anyhow::Result<Closed> {
-    let text = page(heap, case.bar, &case.notes)?;
+    let text = page(heap, case.bar, &case.places)?;
     let mut draft = Draft::blank(heap)?;
-    if draft.load(text.as_bytes()).is_err() {
-        return Err(anyhow!("load is refused"));
-    }
+    draft.load(text.as_bytes()).ok().context("load is refused")?;
     let mut draft = draft.close().reopen();
-    match change_all(&mut draft, case) {
-        Ok(()) => Ok(draft.close()),
-        Err(_) => Err(anyhow!("a change of the sheet is refused")),
-    }
+    change_all(&mut draft, case)
+        .ok()
+        .context("a change of the sheet is refused")?;
+    Ok(draft.close())
 }
 
 /// The compass of a case, with its trial; one that is not possible leaves that in force.
 pub fn compass(case: &Case) -> Result<Compass, Refusal> {
-    let mut compass = Compass::new(case.lowest, case.highest)?;
+    let mut compass = Compass::new(case.keys.lowest, case.keys.highest)?;
     if let Some(trial) = case.trial {
         compass.inquire(trial)?;
         compass.enter(trial);

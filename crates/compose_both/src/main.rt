@@ -2,8 +2,6 @@
 // of the line that moves least over the strict book, or says why there is none.
 #![tactic(auto)]
 
-ghost use Rattle.std.specs.Prelude.{◌≤◌, length, IfOk};
-
 use books::strict::Strict;
 use measure::algebra::Measure;
 use measure::movement::Movement;
@@ -13,11 +11,11 @@ use rules::refusal::Refusal;
 use sheet::draft::{Closed, Draft};
 use standing::compass::Compass;
 use std::alloc::{AllocError, Global};
-use std::io;
 use std::io::{Read, Write};
+use theme::refusal::PageRefusal;
 
 /// How much of the standard input is read.
-const PAGE: usize = 4096;
+const PAGE: u64 = 4096;
 
 /// The most places of a theme.
 const PLACES: usize = 64;
@@ -28,59 +26,66 @@ const ROOM: usize = 48 * PLACES;
 /// Two combinations of a line of so many places.
 const LONGEST: usize = 2 * (13 + 17 * PLACES);
 
-// Fills the buffer from the standard input, as far as that goes, and says how far.
-fn read_input(rt: &HostRuntime, page: &mut [u8]) -> io::Result<usize>
-    ensures { IfOk result (λ n. n ≤ length page.old) }
-{
-    let mut length = 0;
-    let mut input = rt.stdin();
-    for _ in 0..PAGE {
-        let read = input.read(&mut page[length..])?;
-        if read == 0 {
-            break;
-        }
-        length += read;
-    }
-    Ok(length)
+/// Why nothing is composed.
+#[derive(Clone, Copy, Debug)]
+enum Halt {
+    /// The page is no page of a theme.
+    Page(PageRefusal),
+    /// A call on the sheet says no.
+    Sheet(Refusal),
+    /// No memory is left.
+    Memory(AllocError),
 }
 
-// Writes both combinations of the least line, one behind the other, and gives their length.
-fn write_both(sheet: &Closed, memory: &mut [Movement], out: &mut [u8]) -> Result<usize, Refusal>
-    ensures { IfOk result (λ n. n ≤ length out.old) }
-{
-    let mut line = [0; PLACES];
-    least(sheet, &Strict, &Compass::new(0, 23)?, memory, &mut line)?;
-    let cells = &line[0..sheet.theme().len()];
-    let first = write_combination(sheet, cells, 0, out)?;
-    let second = write_combination(sheet, cells, 1, &mut out[first..])?;
-    Ok(first + second)
+impl From<PageRefusal> for Halt {
+    fn from(refusal: PageRefusal) -> Halt {
+        Halt::Page(refusal)
+    }
 }
 
-// Composes from a page: gives the length of what is written, or the number of the refusal.
-fn compose(heap: Global, page: &[u8], out: &mut [u8]) -> Result<Result<usize, u32>, AllocError>
-    ensures { IfOk result (λ composed. IfOk composed (λ n. n ≤ length out.old)) }
-{
-    let mut draft = Draft::blank(heap)?;
-    if let Err(refusal) = draft.load(page) {
-        return Ok(Err(refusal.number()));
+impl From<Refusal> for Halt {
+    fn from(refusal: Refusal) -> Halt {
+        Halt::Sheet(refusal)
     }
-    if let Err(refusal) = draft.add(-7, 0) {
-        return Ok(Err(refusal.number()));
+}
+
+impl From<AllocError> for Halt {
+    fn from(error: AllocError) -> Halt {
+        Halt::Memory(error)
     }
+}
+
+// Both combinations of the least line of a sheet with two, one behind the other.
+fn write_both(heap: Global, sheet: &Closed) -> Result<Vec<u8>, Halt> {
     let mut memory = vec![in heap; Movement::NONE; ROOM]?;
-    match write_both(&draft.close(), &mut memory, out) {
-        Ok(length) => Ok(Ok(length)),
-        Err(refusal) => Ok(Err(refusal.number())),
-    }
+    let mut line = [0; PLACES];
+    let compass = Compass::new(0, 23)?;
+    least(sheet, &Strict, &compass, &mut memory, &mut line)?;
+    let cells = &line[..sheet.theme().len()];
+    // the writer fills a lent buffer and answers how much of it
+    let mut out = vec![in heap; 0; LONGEST]?;
+    let first = write_combination(sheet, cells, 0, &mut out)?;
+    let second = write_combination(sheet, cells, 1, &mut out[first..])?;
+    out.truncate(first + second);
+    Ok(out)
+}
+
+// What a page comes to: both combinations of its least line.
+fn compose(heap: Global, page: &[u8]) -> Result<Vec<u8>, Halt> {
+    let mut draft = Draft::blank(heap)?;
+    draft.load(page)?;
+    draft.add(-7, 0)?;
+    write_both(heap, &draft.close())
 }
 
 fn run(rt: &HostRuntime) -> anyhow::Result<()> {
-    let mut page = [0; PAGE];
-    let length = read_input(rt, &mut page)?;
-    let mut out = [0; LONGEST];
-    match compose(rt.alloc(), &page[0..length], &mut out)? {
-        Ok(length) => rt.stdout().write_all(&out[0..length])?,
-        Err(number) => println!(rt; "refused{number:>4}")?,
+    let mut page = Vec::new(rt.alloc());
+    rt.stdin().take(PAGE).read_to_end(&mut page)?;
+    match compose(rt.alloc(), &page) {
+        Ok(combinations) => rt.stdout().write_all(&combinations)?,
+        Err(Halt::Page(refusal)) => println!(rt; "refused{:>4}", refusal.number())?,
+        Err(Halt::Sheet(refusal)) => println!(rt; "refused{:>4}", refusal.number())?,
+        Err(Halt::Memory(error)) => return Err(error.into()),
     }
     Ok(())
 }
