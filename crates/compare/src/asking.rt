@@ -12,9 +12,8 @@ use question::trying::count_trying;
 use question::weighing::{count, weigh};
 use rules::refusal::Refusal;
 use rules::trial::Trial;
-use sheet::draft::Closed;
+use standing::asking::Asking;
 use standing::checking::check;
-use standing::compass::Compass;
 use std::alloc::Global;
 
 /// How many picks are asked in each case, besides the last line and the one after it.
@@ -28,9 +27,7 @@ const NO_LINE: u32 = 1_000_000;
 pub struct Asked<'a, B> {
     pub heap: Global,
     pub case: &'a Case,
-    pub sheet: &'a Closed,
-    pub book: &'a B,
-    pub compass: &'a Compass,
+    pub asking: &'a Asking<'a, B>,
 }
 
 // Whether a question answered as it was expected to, and wrote the expected line, or none, and nothing behind it.
@@ -46,7 +43,7 @@ impl<B: Book> Asked<'_, B> {
     // Compares what check says of a string of cells, and says whether it stands.
     fn compare_check(&self, cells: &[u8]) -> anyhow::Result<bool> {
         let judged = judge(self.case, cells);
-        let told = check(self.sheet, self.book, self.compass, cells);
+        let told = check(self.asking, cells);
         ensure!(told == judged, "check disagrees");
         Ok(judged.is_ok())
     }
@@ -73,14 +70,14 @@ impl<B: Book> Asked<'_, B> {
 
     // What weigh answers.
     fn weighed<M: Measure>(&self, memory: &mut [M]) -> Result<M, Refusal> {
-        weigh(self.sheet, self.book, self.compass, memory)
+        weigh(self.asking, memory)
     }
 
     // Compares decide, and weigh over yes and no.
     fn compare_first(&self, lines: &[Vec<u8>]) -> anyhow::Result<()> {
         let mut memory = [Possible::NONE; ROOM];
         let mut line = [0; MOST];
-        let told = decide(self.sheet, self.book, self.compass, &mut memory, &mut line);
+        let told = decide(self.asking, &mut memory, &mut line);
         let first = lines.first().ok_or(Refusal::NoLineStands);
         ensure!(agrees(told, &line, first), "decide disagrees");
         let weighed = self.weighed(&mut memory).map(|weight| weight.found);
@@ -92,7 +89,7 @@ impl<B: Book> Asked<'_, B> {
     fn compare_number(&self, lines: &[Vec<u8>]) -> anyhow::Result<()> {
         let mut memory = [Number::NONE; ROOM];
         let number = u32::try_from(lines.len())?;
-        let told = count(self.sheet, self.book, self.compass, &mut memory);
+        let told = count(self.asking, &mut memory);
         ensure!(told == Ok(number), "count disagrees");
         let weighed = self.weighed(&mut memory).map(|weight| weight.value);
         ensure!(weighed == Ok(number), "weigh disagrees");
@@ -104,7 +101,7 @@ impl<B: Book> Asked<'_, B> {
         // what the memory has before is not to matter, so it is not none here
         let mut memory = [Movement::ONE; ROOM];
         let mut line = [0; MOST];
-        let told = least(self.sheet, self.book, self.compass, &mut memory, &mut line);
+        let told = least(self.asking, &mut memory, &mut line);
         let best = least_moved(lines);
         let expected = best.ok_or(Refusal::NoLineStands);
         ensure!(agrees(told, &line, expected), "least disagrees");
@@ -118,14 +115,7 @@ impl<B: Book> Asked<'_, B> {
     fn compare_pick(&self, lines: &[Vec<u8>], number: u32) -> anyhow::Result<()> {
         let mut memory = [Number::NONE; ROOM];
         let mut line = [0; MOST];
-        let told = pick(
-            self.sheet,
-            self.book,
-            self.compass,
-            &mut memory,
-            &mut line,
-            number,
-        );
+        let told = pick(self.asking, &mut memory, &mut line, number);
         let picked = lines.get(number as usize);
         let expected = picked.ok_or(Refusal::NumberNotBelowCount);
         ensure!(agrees(told, &line, expected), "pick disagrees");
@@ -156,8 +146,9 @@ impl<B: Book> Asked<'_, B> {
         let trial = Trial { place: 0, key };
         let number = u32::try_from(beginning(lines, key))?;
         let mut memory = [Number::NONE; ROOM];
-        let mut compass = *self.compass;
-        let told = count_trying(self.sheet, self.book, &mut compass, trial, &mut memory);
+        let Asking { sheet, book, .. } = *self.asking;
+        let mut compass = *self.asking.compass;
+        let told = count_trying(sheet, book, &mut compass, trial, &mut memory);
         ensure!(told == Ok(number), "count under a trial disagrees");
         Ok(())
     }

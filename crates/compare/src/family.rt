@@ -13,6 +13,7 @@ use books::free::Free;
 use books::strict::Strict;
 use books::vertical::Vertical;
 use counterpoint::book::Book;
+use standing::asking::Asking;
 use std::alloc::Global;
 use std::fmt;
 
@@ -78,15 +79,16 @@ impl fmt::Display for Tally {
 // Compares one case over a book, and says how many strings stood.
 fn compare_over<B: Book>(heap: Global, case: &Case, book: &B) -> anyhow::Result<usize> {
     let sheet = closed_sheet(heap, case)?;
-    let compass = compass(case)
-        .ok()
-        .context("a compass or a trial is refused")?;
-    let asked = Asked {
-        heap,
-        case,
+    let compass = compass(case).context("a compass or a trial is refused")?;
+    let asking = Asking {
         sheet: &sheet,
         book,
         compass: &compass,
+    };
+    let asked = Asked {
+        heap,
+        case,
+        asking: &asking,
     };
     let lines = asked.check_strings()?;
     asked.compare(&lines)?;
@@ -95,9 +97,7 @@ fn compare_over<B: Book>(heap: Global, case: &Case, book: &B) -> anyhow::Result<
 
 // A layer over a book.
 fn layer<B: Book + Drop>(book: B, shift: i32) -> anyhow::Result<Vertical<B>> {
-    Vertical::new(book, shift)
-        .ok()
-        .context("a layer is refused")
+    Vertical::new(book, shift).context("a layer is refused")
 }
 
 // Compares one case over a book under the outer layer of the case. Each layer is another type of book.

@@ -9,7 +9,7 @@ use question::finding::pick;
 use question::weighing::count;
 use rules::refusal::Refusal;
 use sheet::draft::{Closed, Draft};
-use standing::compass::Compass;
+use standing::asking::Asking;
 use std::alloc::{AllocError, Global};
 use theme::refusal::PageRefusal;
 
@@ -63,14 +63,14 @@ pub fn fill_sheet(heap: Global) -> Result<Large, AllocError> {
 }
 
 /// How many lines stand over the free book.
-pub fn count_free(sheet: &Closed, compass: &Compass) -> Result<u32, Refusal> {
+pub fn count_free(asking: &Asking<'_, Free>) -> Result<u32, Refusal> {
     let mut memory = [Number::NONE; ROOM];
-    count(sheet, &Free, compass, &mut memory)
+    count(asking, &mut memory)
 }
 
 /// What is answered to a number too large.
-pub fn pick_free(sheet: &Closed, compass: &Compass) -> Result<(), Refusal> {
+pub fn pick_free(asking: &Asking<'_, Free>) -> Result<(), Refusal> {
     let mut memory = [Number::NONE; ROOM];
     let mut line = [0; PLACES];
-    pick(sheet, &Free, compass, &mut memory, &mut line, 1_000_000_000)
+    pick(asking, &mut memory, &mut line, 1_000_000_000)
 }

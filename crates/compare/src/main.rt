@@ -11,9 +11,10 @@ mod making;
 mod restated;
 mod sheets;
 
-use anyhow::Context;
+use books::free::Free;
 use family::{Family, Shelf, Size, compare_family};
 use large::{Large, count_free, fill_list, fill_sheet, pick_free};
+use standing::asking::Asking;
 use standing::compass::Compass;
 
 /// The books of each size of cases.
@@ -45,21 +46,22 @@ const SIZES: [Size; 4] = [
 
 // Says what the calls answer at the ends of their ranges, each refusal by its number, 0 where there is none.
 fn run_large(rt: &HostRuntime) -> anyhow::Result<()> {
-    let compass = Compass::new(0, 23).ok().context("the compass is refused")?;
+    let compass = Compass::new(0, 23)?;
     let Large {
         sheet,
         longest,
         longer,
     } = fill_sheet(rt.alloc())?;
-    let number = pick_free(&sheet, &compass)
-        .err()
-        .map_or(0, |refusal| refusal.number());
-    let count = count_free(&sheet, &compass)
-        .ok()
-        .context("count is refused")?;
-    let longest = longest.err().map_or(0, |refusal| refusal.number());
-    let longer = longer.err().map_or(0, |refusal| refusal.number());
-    let ninth = fill_list(sheet).err().map_or(0, |refusal| refusal.number());
+    let asking = Asking {
+        sheet: &sheet,
+        book: &Free,
+        compass: &compass,
+    };
+    let number = pick_free(&asking).err().map_or(0, u32::from);
+    let count = count_free(&asking)?;
+    let longest = longest.err().map_or(0, u32::from);
+    let longer = longer.err().map_or(0, u32::from);
+    let ninth = fill_list(sheet).err().map_or(0, u32::from);
     println!(rt; "refused: 64 places {longest}, 65 places {longer}, ninth combination {ninth}")?;
     println!(rt; "refused: number 1000000000 {number}")?;
     println!(rt; "64 places over the free book: {count} lines")?;

@@ -60,11 +60,9 @@ fn change_all(draft: &mut Draft, case: &Case) -> Result<(), Refusal> {
 pub fn closed_sheet(heap: Global, case: &Case) -> anyhow::Result<Closed> {
     let text = page(heap, case.bar, &case.places)?;
     let mut draft = Draft::blank(heap)?;
-    draft.load(text.as_bytes()).ok().context("load is refused")?;
+    draft.load(text.as_bytes()).context("load is refused")?;
     let mut draft = draft.close().reopen();
-    change_all(&mut draft, case)
-        .ok()
-        .context("a change of the sheet is refused")?;
+    change_all(&mut draft, case).context("a change of the sheet is refused")?;
     Ok(draft.close())
 }
 

@@ -1,7 +1,6 @@
 // Reads a theme page from standard input and writes it back, or says why it is refused.
 #![tactic(auto)]
 
-use anyhow::Context;
 use std::io::{Read, Write};
 use theme::theme::Theme;
 
@@ -16,12 +15,12 @@ fn run(rt: &HostRuntime) -> anyhow::Result<()> {
     rt.stdin().take(PAGE).read_to_end(&mut page)?;
     let mut theme = Theme::blank(rt.alloc())?;
     if let Err(refusal) = theme.read(&page) {
-        println!(rt; "refused{:>4}", refusal.number())?;
+        println!(rt; "refused{:>4}", u32::from(refusal))?;
         return Ok(());
     }
     // the writer fills a lent buffer and answers how much of it
     let mut out = [0; LONGEST];
-    let length = theme.write(&mut out).ok().context("writing the page")?;
+    let length = theme.write(&mut out)?;
     rt.stdout().write_all(&out[..length])?;
     Ok(())
 }

@@ -9,6 +9,7 @@ use paper::combination::write_combination;
 use question::finding::least;
 use rules::refusal::Refusal;
 use sheet::draft::{Closed, Draft};
+use standing::asking::Asking;
 use standing::compass::Compass;
 use std::alloc::{AllocError, Global};
 use std::io::{Read, Write};
@@ -60,7 +61,12 @@ fn write_both(heap: Global, sheet: &Closed) -> Result<Vec<u8>, Halt> {
     let mut memory = vec![in heap; Movement::NONE; ROOM]?;
     let mut line = [0; PLACES];
     let compass = Compass::new(0, 23)?;
-    least(sheet, &Strict, &compass, &mut memory, &mut line)?;
+    let asking = Asking {
+        sheet,
+        book: &Strict,
+        compass: &compass,
+    };
+    least(&asking, &mut memory, &mut line)?;
     let cells = &line[..sheet.theme().len()];
     // the writer fills a lent buffer and answers how much of it
     let mut out = vec![in heap; 0; LONGEST]?;
@@ -83,8 +89,8 @@ fn run(rt: &HostRuntime) -> anyhow::Result<()> {
     rt.stdin().take(PAGE).read_to_end(&mut page)?;
     match compose(rt.alloc(), &page) {
         Ok(combinations) => rt.stdout().write_all(&combinations)?,
-        Err(Halt::Page(refusal)) => println!(rt; "refused{:>4}", refusal.number())?,
-        Err(Halt::Sheet(refusal)) => println!(rt; "refused{:>4}", refusal.number())?,
+        Err(Halt::Page(refusal)) => println!(rt; "refused{:>4}", u32::from(refusal))?,
+        Err(Halt::Sheet(refusal)) => println!(rt; "refused{:>4}", u32::from(refusal))?,
         Err(Halt::Memory(error)) => return Err(error.into()),
     }
     Ok(())

@@ -14,9 +14,7 @@ use script::gathering::Script;
 fn run(rt: &HostRuntime) -> anyhow::Result<()> {
     let mut script = Script::empty(rt.alloc());
     if let Err(halt) = read_script(rt, &mut script) {
-        let number = halt.number;
-        let fault = halt.fault;
-        println!(rt; "line {number}: {fault}")?;
+        println!(rt; "line {}: {}", halt.number, halt.fault)?;
         return Ok(());
     }
     let played = play(rt.alloc(), &script)?;

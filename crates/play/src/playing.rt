@@ -1,4 +1,5 @@
 // Playing a script as one course. Knows nothing of its text.
+use course::choices::Choices;
 use course::memory::Memory;
 use course::running::{Played, run};
 use measure::algebra::Measure;
@@ -23,12 +24,9 @@ pub fn play(heap: Global, script: &Script) -> Result<Played<Movement>, AllocErro
         movements: &mut movements,
         weights: &mut weights,
     };
-    run(
-        heap,
-        &script.books,
-        &script.compasses,
-        &calls,
-        &mut memory,
-        &mut line,
-    )
+    let choices = Choices {
+        books: &script.books,
+        compasses: &script.compasses,
+    };
+    run(heap, &choices, &calls, &mut memory, &mut line)
 }

@@ -5,7 +5,7 @@ use course::state::State;
 use measure::movement::Movement;
 use paper::combination::write_combination;
 use script::gathering::{Row, Script, Writing};
-use script::shown::{Refused, Shown};
+use script::shown::Shown;
 use std::io;
 use std::io::Write;
 
@@ -33,7 +33,7 @@ fn print_rows(rt: &HostRuntime, rows: &[Row], answers: &[Answer<Movement>]) -> i
                     println!(rt; "{text}  -> {}", Shown(answer))?;
                 }
             }
-            Err(refusal) => println!(rt; "{text}  -> {}", Refused(*refusal))?,
+            Err(refusal) => println!(rt; "{text}  -> {refusal}")?,
         }
     }
     Ok(())
@@ -54,9 +54,9 @@ fn print_writing(
     match write_combination(sheet, line, writing.number, &mut out) {
         Ok(length) => {
             println!(rt; "{text}")?;
-            rt.stdout().write_all(&out[0..length])
+            rt.stdout().write_all(&out[..length])
         }
-        Err(refusal) => println!(rt; "{text}  -> {}", Refused(refusal)),
+        Err(refusal) => println!(rt; "{text}  -> {refusal}"),
     }
 }
 

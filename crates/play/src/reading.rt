@@ -25,13 +25,12 @@ pub struct Halt {
 // The content of a file.
 fn page(rt: &HostRuntime, file: &str) -> Result<Vec<u8>, Fault> {
     let mut page = Vec::new(rt.alloc());
-    let Ok(input) = File::open(rt, file) else {
-        return Err(Fault::Unreadable);
-    };
-    match input.take(PAGE).read_to_end(&mut page) {
-        Ok(_) => Ok(page),
-        Err(_) => Err(Fault::Unreadable),
-    }
+    let input = File::open(rt, file).map_err(|_| Fault::Unreadable)?;
+    input
+        .take(PAGE)
+        .read_to_end(&mut page)
+        .map_err(|_| Fault::Unreadable)?;
+    Ok(page)
 }
 
 // Takes a line into the script.
@@ -54,12 +53,10 @@ fn take_line(rt: &HostRuntime, script: &mut Script, text: String) -> Result<(), 
 pub fn read_script(rt: &HostRuntime, script: &mut Script) -> Result<(), Halt>
     ensures { IfErr result (λ halt. (0 < halt.number) × (halt.number ≤ 65536)) }
 {
-    let Ok(input) = BufReader::new(rt.alloc(), rt.stdin().take(SCRIPT)) else {
-        return Err(Halt {
-            number: 1,
-            fault: Fault::Memory,
-        });
-    };
+    let input = BufReader::new(rt.alloc(), rt.stdin().take(SCRIPT)).map_err(|_| Halt {
+        number: 1,
+        fault: Fault::Memory,
+    })?;
     for (number, line) in (1..=SCRIPT).zip(input.lines(rt.alloc())) {
         let taken = match line {
             Ok(text) => take_line(rt, script, text),

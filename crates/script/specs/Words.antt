@@ -1,8 +1,6 @@
 -- The words in which a script is answered. Assumes nothing.
 use Rattle.std.specs.Prelude.{ℕ, cond, List, ◌++◌, codes, decimal, ◌==◌}
 use Rattle.measure.specs.declared.movement.Movement.{Movement}
-use Rattle.theme.specs.declared.refusal.PageRefusal.{PageRefusal}
-use Rattle.theme.specs.Refusals.{page_number, page_position}
 use Rattle.script.specs.declared.fault.Fault.{Fault}
 use Rattle.script.specs.declared.fault.Fault.TheVariants.{NotACall, Unreadable, Memory}
 
@@ -10,10 +8,6 @@ abbrev pub fault_words : Fault → List ℕ
 fault_words NotACall = codes "not a call"
 fault_words Unreadable = codes "the file cannot be read"
 fault_words Memory = codes "no memory is left"
-
-abbrev pub page_refused_words : PageRefusal → List ℕ
-page_refused_words r =
-    codes "refused " ++ (decimal (page_number r) ++ (codes " at " ++ (decimal (page_position r).line ++ (codes ":" ++ decimal (page_position r).column))))
 
 -- a least sum of 1,000,000 stands for none
 abbrev pub weight_words : Movement → List ℕ

@@ -49,6 +49,8 @@ where
 impl FromStr for Rules {
     type Err = Fault;
 
+    ghost from_str_gives = { λ _ r. IfErr r (λ fault. fault ≡ NotACall) };
+
     fn from_str(word: &str) -> Result<Rules, Fault> {
         match word {
             "strict" => Ok(Rules::Strict),
@@ -62,6 +64,8 @@ impl FromStr for Rules {
 impl FromStr for BookName {
     type Err = Fault;
 
+    ghost from_str_gives = { λ _ r. IfErr r (λ fault. fault ≡ NotACall) };
+
     fn from_str(word: &str) -> Result<BookName, Fault> {
         let (rules, shift) = match word.split_once('+') {
             Some((name, shift)) => (name.parse()?, Some(number(shift)?)),
@@ -72,7 +76,7 @@ impl FromStr for BookName {
 }
 
 // Takes an option that is not given yet off the front of some words, and gives the words behind it.
-fn take_option<'a>(options: &mut Options, words: &'a [&'a str]) -> Result<&'a [&'a str], Fault>
+fn take_option<'a, 'w>(options: &mut Options, words: &'a [&'w str]) -> Result<&'a [&'w str], Fault>
     ensures { MatchResult result (λ rest. length rest.now < length words.now) (λ fault. fault ≡ NotACall) }
 {
     match words {
@@ -98,19 +102,23 @@ fn take_option<'a>(options: &mut Options, words: &'a [&'a str]) -> Result<&'a [&
     }
 }
 
-// The options at the front of some words, up to the word `line` or the end, and the words behind them.
-fn options<'a>(words: &'a [&'a str]) -> Result<(Options, &'a [&'a str]), Fault>
+// Whether an option is to come next.
+fn goes_on(words: &[&str]) -> bool {
+    words.first().is_some_and(|word| *word != "line")
+}
+
+// The options at the front of some words, with those that are read already, and the words behind them.
+fn options<'a, 'w>(
+    mut read: Options,
+    words: &'a [&'w str],
+) -> Result<(Options, &'a [&'w str]), Fault>
     ensures { IfErr result (λ fault. fault ≡ NotACall) }
 {
-    let mut options = Options::default();
-    let mut rest = words;
-    while let [name, ..] = rest {
-        if *name == "line" {
-            break;
-        }
-        rest = take_option(&mut options, rest)?;
+    if !goes_on(words) {
+        return Ok((read, words));
     }
-    Ok((options, rest))
+    let rest = take_option(&mut read, words)?;
+    options(read, rest)
 }
 
 // A question about the book that the first word names, whose words end with the options.
@@ -121,7 +129,7 @@ fn question(asks: Asks, words: &[&str]) -> Result<Question, Fault>
         return Err(Fault::NotACall);
     };
     let book = book.parse()?;
-    let (options, []) = options(words)? else {
+    let (options, []) = options(Options::default(), words)? else {
         return Err(Fault::NotACall);
     };
     Ok(Question {
@@ -163,7 +171,7 @@ fn check(heap: Global, words: &[&str]) -> Result<Question, Fault>
         return Err(Fault::NotACall);
     };
     let book = book.parse()?;
-    let (options, ["line", line @ ..]) = options(words)? else {
+    let (options, ["line", line @ ..]) = options(Options::default(), words)? else {
         return Err(Fault::NotACall);
     };
     Ok(Question {

@@ -1,49 +1,13 @@
 // How answers are shown. Knows nothing of the calls that they answer.
 ghost use Rattle.std.specs.Prelude.{Some};
-ghost use Rattle.script.specs.Words.{page_refused_words, weight_words};
+ghost use Rattle.script.specs.Words.{weight_words};
 
 use course::answer::Answer;
 use measure::algebra::Measure;
 use measure::movement::Movement;
-use rules::refusal::Refusal;
 use std::fmt;
-use theme::refusal::PageRefusal;
 
-/// A refusal with its number, and where it came.
-#[derive(Drop)]
-pub struct Refused(pub Refusal);
-
-impl fmt::Display for Refused {
-    fn fmt<W: fmt::Write>(&self, f: &mut fmt::Formatter<W>) -> fmt::Result {
-        let number = self.0.number();
-        match self.0 {
-            Refusal::NotALine { place } | Refusal::NotKept { place } => {
-                write!(f, "refused {number} at place {place}")
-            }
-            Refusal::BookSaysNo { combination, place } => {
-                write!(
-                    f,
-                    "refused {number} in combination {combination} at place {place}"
-                )
-            }
-            _ => write!(f, "refused {number}"),
-        }
-    }
-}
-
-/// A refused page, with the number and the line and column.
-#[derive(Drop)]
-pub struct RefusedPage(pub PageRefusal);
-
-impl fmt::Display for RefusedPage {
-    ghost output = { λ page. Some (page_refused_words page.0) };
-
-    fn fmt<W: fmt::Write>(&self, f: &mut fmt::Formatter<W>) -> fmt::Result {
-        let number = self.0.number();
-        let at = self.0.position();
-        write!(f, "refused {number} at {}:{}", at.line, at.column)
-    }
-}
+// An answer, a weight and cells have wrappers here, since their words are the script's and their types are not.
 
 /// A least sum of steps, or that there is none.
 #[derive(Drop)]
@@ -53,7 +17,7 @@ impl fmt::Display for Weight {
     ghost output = { λ weight. Some (weight_words weight.0) };
 
     fn fmt<W: fmt::Write>(&self, f: &mut fmt::Formatter<W>) -> fmt::Result {
-        if self.0.sum == Movement::nothing().sum {
+        if self.0 == Movement::NONE {
             f.write_str("weight none")
         } else {
             let sum = self.0.sum;
@@ -84,8 +48,8 @@ impl fmt::Display for Shown<'_> {
     fn fmt<W: fmt::Write>(&self, f: &mut fmt::Formatter<W>) -> fmt::Result {
         match self.0 {
             Answer::Away => f.write_str("not let through"),
-            Answer::PageRefused(refusal) => RefusedPage(*refusal).fmt(f),
-            Answer::Refused(refusal) => Refused(*refusal).fmt(f),
+            Answer::PageRefused(refusal) => refusal.fmt(f),
+            Answer::Refused(refusal) => refusal.fmt(f),
             Answer::Done => f.write_str("done"),
             Answer::Line(line) => Cells(line).fmt(f),
             Answer::Number(number) => write!(f, "number {number}"),
