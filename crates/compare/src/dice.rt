@@ -1,5 +1,5 @@
 // Numbers that look thrown and are always the same. Knows nothing of music.
-ghost use Rattle.std.specs.Prelude.{◌<◌};
+ghost use Rattle.std.specs.Prelude.{◌<◌, ◌≤◌};
 
 /// A linear congruential generator of 32 bits, of which the upper 16 are used.
 #[derive(Drop)]
@@ -8,22 +8,21 @@ pub struct Dice {
 }
 
 impl Dice {
-    /// A number below a bound.
-    pub(crate) fn below(&mut self, bound: u8) -> u8
-        requires { 0 < bound }
-        ensures { result < bound }
+    /// A number below a bound, or 0 below 0.
+    pub fn below(&mut self, bound: u8) -> u8
+        ensures within { result ≤ bound }
+        ensures below { 0 < bound → result < bound }
     {
         self.state = self
             .state
             .wrapping_mul(1_664_525)
             .wrapping_add(1_013_904_223);
-        ((self.state >> 16) % u32::from(bound)) as u8
+        let thrown = self.state >> 16;
+        thrown.checked_rem(u32::from(bound)).unwrap_or(0) as u8
     }
 
     /// Whether the one chance among so many comes.
-    pub(crate) fn chance(&mut self, among: u8) -> bool
-        requires { 0 < among }
-    {
+    pub fn chance(&mut self, among: u8) -> bool {
         self.below(among) == 0
     }
 
