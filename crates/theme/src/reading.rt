@@ -33,7 +33,7 @@ fn read_head(page: &[u8]) -> Result<(Head, &[u8]), PageRefusal>
     };
     let count = count as usize;
     let bar = bar as usize;
-    // No range's `contains` here and below: tried, and the search for the proofs stops at its limits.
+    // No range's `contains` here and below: tried, and the proofs' search stops at its limits.
     if count < 1 || count > MOST_PLACES {
         return Err(Reason::PlacesOutOfRange.at(1, 1));
     }
