@@ -17,6 +17,7 @@ fn minus_column(size: u32, power: u32, plain: u8) -> u8
     }
 }
 
+// By hand for the reason beside `columns` of a theme's fields.
 // A number right-justified in four columns, a minus next to its first digit.
 pub(crate) fn signed_columns(number: i32) -> [u8; 4]
     ensures { result ≡ signed_columns number }

@@ -12,7 +12,7 @@ use rules::refusal::Refusal;
 use sheet::cells::wrong_cell;
 use sheet::draft::Closed;
 use theme::field::columns;
-use theme::theme::Theme;
+use theme::theme::{MOST_PLACES, Theme};
 
 /// The bytes of a head.
 const HEAD: usize = 13;
@@ -20,8 +20,11 @@ const HEAD: usize = 13;
 /// The bytes of a row.
 const ROW: usize = 17;
 
+/// The bytes of the longest combination, one for a theme with the most places.
+pub const LONGEST: usize = HEAD + ROW * MOST_PLACES;
+
 // The head of a combination with this number.
-fn head(number: usize, combination: Combination) -> [u8; 13]
+fn head(number: usize, combination: Combination) -> [u8; HEAD]
     requires { (number < 8) × (combination.entry < 64) }
     ensures { result ≡ combination_head number combination }
 {
@@ -40,7 +43,7 @@ fn theme_key(theme: &Theme, place: usize) -> u8
 }
 
 // A row, of a place, the line's key as it is raised and the theme's key.
-fn row(place: usize, raised: i32, key: u8) -> [u8; 17]
+fn row(place: usize, raised: i32, key: u8) -> [u8; ROW]
     requires { (place < 64) × (negsuc 99 ≤ℤ raised) }
     ensures { result ≡ combination_row place raised key }
 {
@@ -52,7 +55,7 @@ fn row(place: usize, raised: i32, key: u8) -> [u8; 17]
 }
 
 // The row of a cell of the line at a place.
-fn met_row(theme: &Theme, combination: Combination, place: usize, cell: u8) -> [u8; 17]
+fn met_row(theme: &Theme, combination: Combination, place: usize, cell: u8) -> [u8; ROW]
     requires { (place < 64) × ((0 < length theme.now.places) × ((shift_in_range combination.jv ≡ true) × (combination.entry < 64))) }
     ensures { result ≡ met_row theme.now.places combination place cell }
 {
@@ -60,7 +63,8 @@ fn met_row(theme: &Theme, combination: Combination, place: usize, cell: u8) -> [
     row(place, i32::from(cell / 2) + combination.jv, key)
 }
 
-// Puts the rows of a line's cells into a buffer, behind a head.
+// Puts the rows of a line's cells into a buffer, behind a head. By index, in a loop of its own, for
+// the reasons beside the loop of a theme's page.
 fn put_rows(out: &mut [u8], theme: &Theme, combination: Combination, line: &[u8])
     requires { (length line.now ≤ 64) × ((0 < length theme.now.places) × ((shift_in_range combination.jv ≡ true) × ((combination.entry < 64) × (combination_length (length line.now) ≤ length out.old)))) }
     ensures { out.new ≡ take 13 out.old ++ combination_rows theme.now.places combination 0 line.now ++ drop (combination_length (length line.now)) out.old }
@@ -112,7 +116,7 @@ pub fn write_combination(
         return Err(Refusal::OutputTooShort);
     }
     let combination = list[number];
-    out[0..HEAD].copy_from_slice(&head(number, combination));
+    out[..HEAD].copy_from_slice(&head(number, combination));
     put_rows(out, theme, combination, line);
     Ok(length)
 }

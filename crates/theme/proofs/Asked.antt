@@ -1,5 +1,5 @@
 -- The first no to questions that come one list after another. Assumes nothing.
-use Rattle.std.proofs.Common.{◌≡◌, ℕ, Bool, true, false, cond, List, [], ◌∷◌, ◌++◌, is_ok, Some, None, Ok, Err, Option, Result, refl, ap, ◌∙◌, arith, MatchResult}
+use Rattle.std.proofs.Common.{◌≡◌, ℕ, Bool, true, false, cond, List, [], ◌∷◌, ◌++◌, is_ok, Some, None, Ok, Option, Result, refl, ap, ◌∙◌, arith}
 use Rattle.theme.specs.Refusals.{first_no, or_next}
 
 or_next_cond : {R : Type 0} (b : Bool) (r : R) (o next : Option R) → cond b (or_next o next) (Some r) ≡ or_next (cond b o (Some r)) next
@@ -45,7 +45,6 @@ or_next_none (Some r) next e = let z : ◌≡◌ {A = ℕ} 0 1 = cc in absurd (o
 pub or_next_both : {R : Type 0} (o next : Option R) → o ≡ None → next ≡ None → or_next o next ≡ None
 or_next_both {R} o next none none' = ap (λ (p : Option R). or_next p next) none ∙ none'
 
--- a call that is refused only by a no is accepted where there is none
-pub ok_since : {X R : Type 0} (r : Result X R) (P : X → Type 0) (o : Option R) → MatchResult r P (λ (e : R). o ≡ Some e) → o ≡ None → is_ok r ≡ true
-ok_since (Ok x) P o c none = refl
-ok_since (Err e) P o c none = let z : ◌≡◌ {A = ℕ} 0 1 = cc in absurd (omega arith)
+-- what stands where a call is accepted
+pub where_ok : {X E A : Type 0} (r : Result X E) (x : X) (one other : A) → r ≡ Ok x → cond (is_ok r) one other ≡ one
+where_ok {X} {E} r x one other ok = ap (λ (q : Result X E). cond (is_ok q) one other) ok

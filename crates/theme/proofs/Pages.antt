@@ -1,5 +1,5 @@
 -- Reading a page is the inverse of writing it. Assumes nothing.
-use Rattle.std.proofs.Common.{◌≡◌, ℕ, zero, suc, ◌+◌, ◌*◌, ◌%◌, ◌≤◌, Bool, true, false, cond, ◌&&◌, eqb, leb, List, [], ◌∷◌, ◌++◌, length, get_or, drop, is_some, Some, None, Option, unwrap_or, sym, refl, ap, ◌∙◌, arith, length-drop}
+use Rattle.std.proofs.Common.{◌≡◌, ℕ, zero, suc, ◌+◌, ◌*◌, ◌/◌, ◌%◌, ◌≤◌, Bool, true, false, cond, ◌&&◌, eqb, leb, List, [], ◌∷◌, ◌++◌, length, get_or, drop, is_some, Some, None, Option, unwrap_or, sym, refl, ap, ◌∙◌, arith, length-drop}
 use Rattle.std.proofs.lemmas.List.{drop-drop, drop_more, nil_from_length}
 use Rattle.std.proofs.lemmas.Bool.{and_from, and_parts, leb-true, eq-eqb, eqb-true}
 use Rattle.theme.specs.declared.place.Mark.{Mark}
@@ -7,7 +7,7 @@ use Rattle.theme.specs.declared.place.Mark.TheVariants.{Pin, Bridge}
 use Rattle.theme.specs.declared.place.Place.{Place}
 use Rattle.theme.specs.declared.refusal.PageRefusal.{PageRefusal}
 use Rattle.theme.specs.Fields.{number_in, columns_of}
-use Rattle.theme.specs.Refusals.{first_no}
+use Rattle.theme.specs.Refusals.{first_no, or_next}
 use Rattle.theme.specs.Themes.{PlainTheme, Lawful, lawful, blank_or_lawful, places_lawful, count_lawful, bar_lawful, marked_well}
 use Rattle.theme.specs.Pages.{head_questions, row_questions, rows_refusal, refusal_of, theme_in, place_in, places_in, count_in, bar_in, key_in, mark_in, row_of, rows_of, head_of, page_of, page_length, holds_number, ReadsBack, AcceptsExactly}
 use Rattle.theme.specs.Places.{mark_of, letter_of}
@@ -180,10 +180,23 @@ exactly_refused page held e some = (
   (λ th law same. let none : refusal_of page ≡ None = sym (ap refusal_of same) ∙ (reads_back th law).0 in let z : ◌≡◌ {A = ℕ} 0 1 = cc in absurd (omega arith)),
 )
 
--- what is filled in is the theme of the page
-pub filled_theme : (page rows : List ℕ) (head : Head) (items : List Place) → Headed head rows page → items ≡ places_in head.count rows → ◌≡◌ {A = PlainTheme} (record { places = items; bar = head.bar }) (theme_in page)
-filled_theme page rows head items h filled =
-    λ i. record {
-      places = (filled ∙ (λ j. places_in (h.count_is j) (h.rows_are j))) i;
-      bar = h.bar_is i;
-    }
+-- a page whose head is refused is refused for it
+pub refused_head : (page : List ℕ) (e : PageRefusal) → first_no (head_questions page) ≡ Some e → refusal_of page ≡ Some e
+refused_head page e some = ap (λ (o : Option PageRefusal). or_next o (rows_refusal (count_in page) 0 None (drop 9 page))) some
+
+-- the rows behind a head that is not refused
+module _ (page rows : List ℕ) (head : Head) (h : Headed head rows page) where
+  pub so_many : length rows / 11 ≡ head.count
+  so_many = omega (arith, h.long)
+
+  pub rows_decide : first_no (head_questions page) ≡ None → refusal_of page ≡ rows_refusal (length rows / 11) 0 None rows
+  rows_decide none =
+      ap (λ (o : Option PageRefusal). or_next o (rows_refusal (count_in page) 0 None (drop 9 page))) none
+      ∙ sym (λ i. rows_refusal ((so_many ∙ h.count_is) i) 0 None (h.rows_are i))
+
+  -- what is read from them is the theme of the page
+  pub filled_theme : (items : List Place) → items ≡ places_in (length rows / 11) rows → ◌≡◌ {A = PlainTheme} (record { places = items; bar = head.bar }) (theme_in page)
+  filled_theme items filled i = record {
+    places = (filled ∙ (λ j. places_in ((so_many ∙ h.count_is) j) (h.rows_are j))) i;
+    bar = h.bar_is i;
+  }

@@ -1,5 +1,5 @@
 -- What four columns show, and that reading them is the inverse of writing them. Assumes nothing.
-use Rattle.std.proofs.Common.{◌≡◌, ℕ, ◌+◌, ◌*◌, ◌%◌, ◌<◌, ◌≤◌, Bool, true, false, cond, ◌&&◌, eqb, List, [], ◌∷◌, ◌++◌, length, get_or, drop, Some, None, Option, sym, refl, ap, ◌∙◌, subst, arith}
+use Rattle.std.proofs.Common.{◌≡◌, ℕ, ◌+◌, ◌*◌, ◌%◌, ◌<◌, ◌≤◌, Bool, true, false, cond, ◌&&◌, eqb, List, [], ◌∷◌, ◌++◌, length, get_or, take, drop, Some, None, Option, sym, refl, ap, ◌∙◌, subst, arith}
 use Rattle.std.proofs.lemmas.Bool.{and_from, and_parts, eq-eqb, eqb-true, cond-true}
 use Rattle.std.proofs.lemmas.Bool.Decides.{nat_tests}
 use Rattle.theme.specs.Fields.{column, columns_of, value_in, worth, shows, number_in}
@@ -56,3 +56,7 @@ split_four (a ∷ []) h = absurd (omega arith)
 split_four (a ∷ b ∷ []) h = absurd (omega arith)
 split_four (a ∷ b ∷ c ∷ []) h = absurd (omega arith)
 split_four (a ∷ b ∷ c ∷ d ∷ rest) h = refl
+
+-- the first four bytes of a text that has them
+pub four_taken : (text : List ℕ) → 4 ≤ length text → take 4 text ≡ four_of text
+four_taken text h = ap (take 4) (split_four text h)

@@ -18,6 +18,8 @@ fn column(number: u32, power: u32) -> u8
     }
 }
 
+// Not by `{:>4}`: `format!` asks for memory, which only making a blank sheet may, and `write!` into
+// lent bytes needs a writer of our own.
 /// A number right-justified in four columns, with blanks to the left and no leading zero.
 pub fn columns(number: u32) -> [u8; 4]
     ensures { result ≡ columns_of number }
@@ -42,16 +44,15 @@ fn worth(byte: u8) -> u32
 pub(crate) fn read_field(text: &[u8]) -> Result<(u32, &[u8]), NotANumber>
     ensures { MatchResult result (λ x. (number_in text.now ≡ Some x.0) × (x.1.now ≡ drop 4 text.now)) (λ _. number_in text.now ≡ None) }
 {
-    if text.len() < 4 {
+    let Some((field, rest)) = text.split_first_chunk::<4>() else {
         return Err(NotANumber);
-    }
-    let field = [text[0], text[1], text[2], text[3]];
+    };
     let number = 1000 * worth(field[0])
         + 100 * worth(field[1])
         + 10 * worth(field[2])
         + worth(field[3]);
-    if columns(number) == field {
-        Ok((number, &text[4..]))
+    if columns(number) == *field {
+        Ok((number, rest))
     } else {
         Err(NotANumber)
     }

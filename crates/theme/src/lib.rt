@@ -8,4 +8,4 @@ mod reading;
 pub mod refusal;
 mod row;
 pub mod theme;
-mod writing;
+pub mod writing;

@@ -1,14 +1,15 @@
-// Reading a theme from its page. The whole page is looked through before the theme is changed.
-ghost use Rattle.std.specs.Prelude.{◌≡◌, ◌*◌, ◌≤◌, length, is_ok, if◌then◌else◌, Some, None, vec_capacity, MatchResult, ◌==◌, slice_index};
+// Reading a theme from its page. The whole page is read before the theme is changed.
+ghost use Rattle.std.specs.Prelude.{◌≡◌, ◌*◌, ◌/◌, ◌≤◌, length, take, is_ok, if◌then◌else◌, Some, None, vec_capacity, MatchResult};
 ghost use Rattle.theme.specs.Refusals.{first_no, answer};
 ghost use Rattle.theme.specs.Pages.{head_questions, rows_refusal, places_in, refusal_of, theme_in, AcceptsExactly};
 ghost use Rattle.theme.specs.Held.{Headed};
 
 use super::field::read_field;
-use super::place::Place;
+use super::place::{Mark, Place};
 use super::refusal::{PageRefusal, Reason};
-use super::row::read_row;
+use super::row::{ROW, read_row};
 use super::theme::{MOST_PLACES, Theme};
+use super::writing::HEAD;
 
 // What the head of a page says.
 #[derive(Clone, Copy)]
@@ -17,18 +18,11 @@ struct Head {
     bar: usize,
 }
 
-// Is the ninth byte of a page a newline?
-fn head_ended(page: &[u8]) -> bool
-    ensures { result ≡ (slice_index page.now 8 == 10) }
-{
-    page.len() > 8 && page[8] == b'\n'
-}
-
 // Reads the head of a page, holds the page's length to it, and gives it with the rows.
 fn read_head(page: &[u8]) -> Result<(Head, &[u8]), PageRefusal>
     ensures { MatchResult result (λ x. (first_no (head_questions page.now) ≡ None) × Headed x.0 x.1.now page.now) (λ e. first_no (head_questions page.now) ≡ Some e) }
 {
-    if !head_ended(page) {
+    if page.get(8) != Some(&b'\n') {
         return Err(Reason::HeadUnended.at(1, 1));
     }
     let Ok((count, rest)) = read_field(page) else {
@@ -39,57 +33,37 @@ fn read_head(page: &[u8]) -> Result<(Head, &[u8]), PageRefusal>
     };
     let count = count as usize;
     let bar = bar as usize;
+    // No range's `contains` here and below: tried, and the proofs' search stops at its limits.
     if count < 1 || count > MOST_PLACES {
         return Err(Reason::PlacesOutOfRange.at(1, 1));
     }
     if bar < 1 || bar > count || count % bar != 0 {
         return Err(Reason::BarUnfit.at(1, 5));
     }
-    if page.len() != 9 + 11 * count {
+    if page.len() != HEAD + ROW * count {
         return Err(Reason::WrongLength.at(1, 1));
     }
-    Ok((Head { count, bar }, &page[9..]))
+    Ok((Head { count, bar }, &page[HEAD..]))
 }
 
-// Looks through the rows of so many places, and stops at the first no.
-fn check_rows(rows: &[u8], count: usize) -> Result<(), PageRefusal>
-    requires { (count ≤ 64) × (length rows.now ≡ 11 * count) }
-    ensures { MatchResult result (λ _. rows_refusal count 0 None rows.now ≡ None) (λ e. rows_refusal count 0 None rows.now ≡ Some e) }
+// Reads rows, each as that of its place. Behind their places the array has pins at key 0.
+fn read_rows(rows: &[u8]) -> Result<[Place; MOST_PLACES], PageRefusal>
+    requires { length rows.now ≤ 704 }
+    ensures { MatchResult result (λ read. (rows_refusal (length rows.now / 11) 0 None rows.now ≡ None) × (take (length rows.now / 11) read ≡ places_in (length rows.now / 11) rows.now)) (λ e. rows_refusal (length rows.now / 11) 0 None rows.now ≡ Some e) }
 {
-    let mut rest = rows;
+    let blank = Place {
+        key: 0,
+        mark: Mark::Pin,
+    };
+    let mut places = [blank; MOST_PLACES];
     let mut before = None;
-    for place in 0..count {
-        let (read, after) = read_row(rest, place, before)?;
+    let (rows, _) = rows.as_chunks::<ROW>();
+    for (place, row) in rows.iter().enumerate() {
+        let read = read_row(row, place, before)?;
+        places[place] = read;
         before = Some(read.key);
-        rest = after;
     }
-    Ok(())
-}
-
-// Looks a whole page through, and gives its head with its rows.
-fn examine(page: &[u8]) -> Result<(Head, &[u8]), PageRefusal>
-    ensures { MatchResult result (λ x. (refusal_of page.now ≡ None) × Headed x.0 x.1.now page.now) (λ e. refusal_of page.now ≡ Some e) }
-{
-    let (head, rows) = read_head(page)?;
-    check_rows(rows, head.count)?;
-    Ok((head, rows))
-}
-
-// Puts the places of so many rows, which have been looked through, in the place of those held.
-fn fill(places: &mut Vec<Place>, rows: &[u8], count: usize)
-    requires { (count ≤ 64) × ((64 ≤ vec_capacity places.old) × ((length rows.now ≡ 11 * count) × (rows_refusal count 0 None rows.now ≡ None))) }
-    ensures items { places.new.items ≡ places_in count rows.now }
-    ensures capacity { 64 ≤ vec_capacity places.new }
-{
-    places.clear();
-    let mut rest = rows;
-    let mut before = None;
-    for place in 0..count {
-        let (read, after) = read_row(rest, place, before).unwrap();
-        places.push_reserved(read);
-        before = Some(read.key);
-        rest = after;
-    }
+    Ok(places)
 }
 
 impl Theme {
@@ -99,8 +73,12 @@ impl Theme {
         ensures held { self.new ≡ (if is_ok result then theme_in page.now else self.old) }
         ensures exactly { AcceptsExactly page.now (is_ok result) self.new }
     {
-        let (head, rows) = examine(page)?;
-        fill(&mut self.places, rows, head.count);
+        let (head, rows) = read_head(page)?;
+        let places = read_rows(rows)?;
+        self.places.clear();
+        self.places
+            .extend_from_slice(&places[..head.count])
+            .unwrap();
         self.bar = head.bar;
         Ok(())
     }

@@ -9,9 +9,12 @@ use super::field::{columns, read_field};
 use super::place::{HIGHEST_KEY, Mark, Place};
 use super::refusal::{PageRefusal, Reason};
 
+/// The bytes of a row.
+pub(crate) const ROW: usize = 11;
+
 // Sees that the row of a place has its blank, its newline and its number.
-fn check_frame(row: &[u8], place: usize) -> Result<(), PageRefusal>
-    requires { (11 ≤ length row.now) × (place < 64) }
+fn check_frame(row: &[u8; ROW], place: usize) -> Result<(), PageRefusal>
+    requires { place < 64 }
     ensures { MatchResult result (λ _. first_no (frame_questions place row.now) ≡ None) (λ e. first_no (frame_questions place row.now) ≡ Some e) }
 {
     let line = place + 2;
@@ -53,25 +56,24 @@ fn read_mark(letter: u8, line: usize, before: Option<u8>, key: u8) -> Result<Mar
     Ok(mark)
 }
 
-// Reads the row at the front of `text` as that of a place after the key `before`, and gives the
-// place with the rest of the page.
+// Reads a row as that of a place after the key `before`.
 pub(crate) fn read_row(
-    text: &[u8],
+    row: &[u8; ROW],
     place: usize,
     before: Option<u8>,
-) -> Result<(Place, &[u8]), PageRefusal>
-    requires { (11 ≤ length text.now) × (place < 64) }
-    ensures { MatchResult result (λ x. (first_no (row_questions place before text.now) ≡ None) × (x.0 ≡ place_in text.now) × (x.1.now ≡ drop 11 text.now)) (λ e. first_no (row_questions place before text.now) ≡ Some e) }
+) -> Result<Place, PageRefusal>
+    requires { place < 64 }
+    ensures { MatchResult result (λ read. (first_no (row_questions place before row.now) ≡ None) × (read ≡ place_in row.now)) (λ e. first_no (row_questions place before row.now) ≡ Some e) }
 {
     let line = place + 2;
-    check_frame(text, place)?;
-    let key = read_key(&text[4..], line)?;
-    let mark = read_mark(text[9], line, before, key)?;
-    Ok((Place { key, mark }, &text[11..]))
+    check_frame(row, place)?;
+    let key = read_key(&row[4..], line)?;
+    let mark = read_mark(row[9], line, before, key)?;
+    Ok(Place { key, mark })
 }
 
 // The row of a place with this number.
-pub(crate) fn row(number: usize, place: Place) -> [u8; 11]
+pub(crate) fn row(number: usize, place: Place) -> [u8; ROW]
     requires { number < 64 }
     ensures { result ≡ row_of number place }
 {

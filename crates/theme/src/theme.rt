@@ -11,6 +11,7 @@ use std::marker::Model;
 /// The most places that a theme has.
 pub const MOST_PLACES: usize = 64;
 
+// A blank theme is no `Option` of a theme: the memory is asked for once, before there is a theme.
 /// A theme, blank until a page is read into it.
 #[derive(Drop)]
 pub struct Theme {

@@ -6,17 +6,17 @@ ghost use Rattle.theme.specs.Pages.{head_of, rows_of, page_of, page_length, writ
 use super::field::columns;
 use super::place::Place;
 use super::refusal::WriteRefusal;
-use super::row::row;
-use super::theme::Theme;
+use super::row::{ROW, row};
+use super::theme::{MOST_PLACES, Theme};
 
 /// The bytes of a head.
-const HEAD: usize = 9;
+pub(crate) const HEAD: usize = 9;
 
-/// The bytes of a row.
-const ROW: usize = 11;
+/// The bytes of the longest page, that of a theme with the most places.
+pub const LONGEST: usize = HEAD + ROW * MOST_PLACES;
 
 // The head of a page.
-fn head(count: usize, bar: usize) -> [u8; 9]
+fn head(count: usize, bar: usize) -> [u8; HEAD]
     requires { (count ≤ 64) × (bar ≤ 64) }
     ensures { result ≡ head_of count bar }
 {
@@ -25,7 +25,9 @@ fn head(count: usize, bar: usize) -> [u8; 9]
     [a, b, c, d, e, f, g, h, b'\n']
 }
 
-// Puts the rows of places into a buffer, behind a head.
+// Puts the rows of places into a buffer, behind a head. By index: once the borrow of a
+// `chunks_exact_mut` is over, a proof knows the buffer's length and not its bytes. `paper` has a loop
+// of its own: one for both would take the row as a closure, and ask of callers that it can be called.
 fn put_rows(out: &mut [u8], places: &[Place])
     requires { (length places.now ≤ 64) × (page_length (length places.now) ≤ length out.old) }
     ensures { out.new ≡ take 9 out.old ++ rows_of 0 places.now ++ drop (page_length (length places.now)) out.old }
@@ -53,7 +55,7 @@ impl Theme {
         if out.len() < length {
             return Err(WriteRefusal::OutputTooShort);
         }
-        out[0..HEAD].copy_from_slice(&head(count, self.bar));
+        out[..HEAD].copy_from_slice(&head(count, self.bar));
         put_rows(out, &self.places);
         Ok(length)
     }

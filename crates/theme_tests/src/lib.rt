@@ -4,6 +4,7 @@
 #[cfg(test)]
 mod tests {
     use std::alloc::{AllocError, Global};
+    use std::fmt::Write;
     use std::test::Fail;
     use theme::theme::Theme;
 
@@ -24,27 +25,11 @@ mod tests {
         }
     }
 
-    // A number in four columns, for numbers below 100.
-    fn put_number(page: &mut Vec<u8>, number: u8) -> Result<(), AllocError> {
-        page.extend_from_slice(b"  ")?;
-        page.push(if number < 10 {
-            b' '
-        } else {
-            b'0' + number / 10 % 10
-        })?;
-        page.push(b'0' + number % 10)?;
-        Ok(())
-    }
-
     // The page of so many pins, all at key 12, in one bar.
-    fn pins(heap: Global, count: u8) -> Result<Vec<u8>, AllocError> {
-        let mut page = Vec::new(heap);
-        put_number(&mut page, count)?;
-        put_number(&mut page, count)?;
-        page.push(b'\n')?;
+    fn pins(heap: Global, count: u8) -> Result<String, AllocError> {
+        let mut page = format!(in heap; "{count:>4}{count:>4}\n")?;
         for place in 0..count {
-            put_number(&mut page, place)?;
-            page.extend_from_slice(b"  12 p\n")?;
+            writeln!(page, "{place:>4}  12 p")?;
         }
         Ok(page)
     }
@@ -247,7 +232,7 @@ mod tests {
         let mut theme = Theme::blank(rt.alloc())?;
         for length in 0..21usize {
             let number = if length < 9 { 1 } else { 5 };
-            assert_eq!(rt; answer(&mut theme, &TWO[0..length]), Some((number, 1, 1)));
+            assert_eq!(rt; answer(&mut theme, &TWO[..length]), Some((number, 1, 1)));
         }
         assert_eq!(rt; answer(&mut theme, TWO), None);
         assert_eq!(rt; theme.len(), 2);
@@ -259,11 +244,11 @@ mod tests {
         let mut theme = Theme::blank(rt.alloc())?;
         for count in 1..65u8 {
             let page = pins(rt.alloc(), count)?;
-            assert_eq!(rt; answer(&mut theme, &page), None);
+            assert_eq!(rt; answer(&mut theme, page.as_bytes()), None);
             assert_eq!(rt; theme.len(), count as usize);
         }
         let page = pins(rt.alloc(), 65)?;
-        assert_eq!(rt; answer(&mut theme, &page), Some((3, 1, 1)));
+        assert_eq!(rt; answer(&mut theme, page.as_bytes()), Some((3, 1, 1)));
         assert_eq!(rt; theme.len(), 64);
         Ok(())
     }
