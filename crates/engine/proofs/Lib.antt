@@ -8,3 +8,4 @@ pub mod Rosters
 pub mod Shifts
 pub mod Totals
 pub mod Traces
+pub mod Written

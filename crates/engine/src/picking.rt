@@ -79,35 +79,25 @@ impl Roster {
         }
         None
     }
-}
 
-/// Writes the line with a number, if there are so many, and says whether there are, where there is room for
-/// the working values and the line.
-fn pick_line<P: Passage>(
-    passage: &P,
-    n: usize,
-    memory: &mut [Number],
-    line: &mut [u8],
-    k: u32,
-) -> bool
-    requires { (0 < n) × ((n ≤ 64) × ((k < 1000000000) × ((48 * n ≤ length memory.old) × (n ≤ length line.old)))) }
-    ensures answer { result ≡ is_some (slice_get (roster (P.way passage.now) n) k) }
-    ensures line { line.new ≡ written (slice_get (roster (P.way passage.now) n) k) line.old }
-    ensures beyond { drop (48 * n) memory.new ≡ drop (48 * n) memory.old }
-{
-    let roster = Roster::of(passage, n);
-    let cells = &mut memory[..CELLS * n];
-    let Some(start) = roster.first_turn(cells, k) else {
-        return false;
-    };
-    let store = Store {
-        roster: &roster,
-        goal: start.cell,
-        from: 0,
-        cells,
-    };
-    store.trace_number(start.number, &mut line[..n]);
-    true
+    /// Writes the line with a number, if there are so many, and says whether there are.
+    fn pick_line(&self, cells: &mut [Number], line: &mut [u8], k: u32) -> bool
+        requires { (k < 1000000000) × ((length cells.old ≡ 48 * self.now.places) × (length line.old ≡ self.now.places)) }
+        ensures answer { result ≡ is_some (slice_get (roster (way_of self.now) self.now.places) k) }
+        ensures line { line.new ≡ written (slice_get (roster (way_of self.now) self.now.places) k) line.old }
+    {
+        let Some(start) = self.first_turn(cells, k) else {
+            return false;
+        };
+        let store = Store {
+            roster: self,
+            goal: start.cell,
+            from: 0,
+            cells,
+        };
+        store.trace_number(start.number, line);
+        true
+    }
 }
 
 /// Writes the line of `n` cells that goes round and has the number `k`, counted from 0 in order, and says
@@ -127,5 +117,6 @@ pub fn pick<P: Passage>(
     ensures refused { is_ok result ≡ false → memory.new ≡ memory.old }
 {
     pick_for(n, memory.len(), line.len(), k)?;
-    Ok(pick_line(passage, n, memory, line, k))
+    let roster = Roster::of(passage, n);
+    Ok(roster.pick_line(&mut memory[..CELLS * n], &mut line[..n], k))
 }
