@@ -31,6 +31,7 @@ impl Store<'_, Number> {
         requires { (self.now.from ≤ place + 1) × ((place + 1 < self.now.roster.now.places) × ((turn.cell < 48) × (turn.number < 1000000000))) }
         ensures { IsTurn (by_cell (way_of self.now.roster.now) self.now.goal (self.now.roster.now.places - 1 - (place + 1)) place turn.cell) turn.number result }
     {
+        // a loop, as the number goes down by the lines of each cell passed
         let mut number = turn.number;
         for cell in 0..CELLS {
             if self.roster.verdicts.may(place, turn.cell, cell) {
@@ -55,6 +56,7 @@ impl Store<'_, Number> {
             number,
         };
         line[0] = turn.cell as u8;
+        // by index, as no element is known after `iter_mut`; the turn goes on from place to place
         for place in 0..self.roster.places - 1 {
             turn = self.next_turn(place, turn).unwrap();
             line[place + 1] = turn.cell as u8;
@@ -69,6 +71,7 @@ impl Roster {
         ensures turn { IsTurn (begun_by (way_of self.now) (self.now.places - 1)) k result }
         ensures filled { IfSome result (λ turn. Filled number_ring (way_of self.now) turn.cell self.now.places 0 cells.new) }
     {
+        // a loop, as the number goes down by the lines of each cell passed, and each cell fills the cells anew
         let mut number = k;
         for cell in 0..CELLS {
             let count = self.fill(cells, cell).value;

@@ -24,6 +24,7 @@ impl<M: Choosing> Store<'_, M> {
         requires { (self.now.from ≤ place + 1) × ((place + 1 < self.now.roster.now.places) × (cell < 48)) }
         ensures { IsFirst (attains M.ring M.picks (way_of self.now.roster.now) self.now.goal (self.now.roster.now.places - 1 - (place + 1)) place cell prefix total) result }
     {
+        // a loop: tried with `find`, whose closure needs clauses of its own that say as much as the invariant
         for next in 0..CELLS {
             if self.roster.verdicts.may(place, cell, next) {
                 let after = self.get(place + 1, next);
@@ -46,6 +47,7 @@ impl<M: Choosing> Store<'_, M> {
         let mut cell = self.goal;
         let mut prefix = M::ONE;
         line[0] = cell as u8;
+        // by index, as no element is known after `iter_mut`; cell and prefix go on from place to place
         for place in 0..self.roster.places - 1 {
             let next = self.next_best(place, cell, prefix, total).unwrap();
             line[place + 1] = next as u8;
@@ -62,6 +64,7 @@ impl Roster {
         ensures start { IsFirst (λ c. M.picks (lines_from M.ring self.now c) total) result }
         ensures filled { IfSome result (λ start. Filled M.ring (way_of self.now) start self.now.places 0 cells.new) }
     {
+        // a loop, as each start cell fills the cells anew
         for start in 0..CELLS {
             if self.fill(cells, start).chooses(total) {
                 return Some(start);

@@ -13,6 +13,9 @@ pub const CELLS: usize = 48;
 pub const PLACES: usize = 64;
 
 /// The verdicts of some passage: bit `d` of a place's word for a cell says whether the cell `d` may follow.
+// Bits and no array of bools: a place's verdicts on 48 cells stand in one word, which is read at once for each
+// cell that is filled and which, if empty, skips all of them; and the table, which is moved, is of 24 KiB and not 144.
+// Public, as what it says is one of the engine's promises.
 #[derive(Clone, Copy)]
 pub struct Verdicts {
     words: [[u64; CELLS]; PLACES],
