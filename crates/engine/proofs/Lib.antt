@@ -1,5 +1,6 @@
 pub mod Firsts
 pub mod Lists
+pub mod Made
 pub mod Numberings
 pub mod Picks
 pub mod Rests
@@ -7,3 +8,4 @@ pub mod Rosters
 pub mod Shifts
 pub mod Totals
 pub mod Traces
+pub mod Written

@@ -3,6 +3,7 @@ pub mod Lines
 pub mod Tables
 pub mod Tails
 pub mod Turns
+pub mod Unfits
 pub mod Ways
 pub mod Weights
 pub mod Words

@@ -27,6 +27,7 @@ impl<M: Measure> Store<'_, M> {
     {
         let mut total = M::NONE;
         let word = self.roster.verdicts.word(place, cell);
+        // an empty word lets nothing through
         if word == 0 {
             return total;
         }
@@ -71,6 +72,7 @@ impl Roster {
         requires filled { Filled M.ring (way_of self.now) goal self.now.places (place + 1) cells.old }
         ensures { Filled M.ring (way_of self.now) goal self.now.places place cells.new }
     {
+        // by index, as no element is known after `iter_mut`
         for cell in 0..CELLS {
             let store = Store {
                 roster: self,
@@ -100,6 +102,7 @@ impl Roster {
         requires { (start < 48) × (length cells.old ≡ 48 * self.now.places) }
         ensures { result ≡ lines_from M.ring self.now start }
     {
+        // an empty word lets nothing through
         if self.verdicts.word(0, start) == 0 {
             return M::NONE;
         }
@@ -112,6 +115,7 @@ impl Roster {
         ensures { result ≡ round M.ring (way_of self.now) self.now.places }
     {
         let mut total = M::NONE;
+        // a loop, as each start cell fills the cells anew
         for start in 0..CELLS {
             total = total.join(self.weigh_start(cells, start));
         }

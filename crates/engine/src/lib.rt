@@ -1,5 +1,6 @@
 // Closed walks over cells: weighed, traced and counted over any measure.
 // Knows cells and places, and nothing of why one cell may follow another.
+// `n` is how many places there are and `k` a line's number, as in the definitions that the clauses cite.
 #![tactic(auto)]
 
 mod fill;

@@ -31,6 +31,7 @@ impl Store<'_, Number> {
         requires { (self.now.from ≤ place + 1) × ((place + 1 < self.now.roster.now.places) × ((turn.cell < 48) × (turn.number < 1000000000))) }
         ensures { IsTurn (by_cell (way_of self.now.roster.now) self.now.goal (self.now.roster.now.places - 1 - (place + 1)) place turn.cell) turn.number result }
     {
+        // a loop, as the number goes down by the lines of each cell passed
         let mut number = turn.number;
         for cell in 0..CELLS {
             if self.roster.verdicts.may(place, turn.cell, cell) {
@@ -55,6 +56,7 @@ impl Store<'_, Number> {
             number,
         };
         line[0] = turn.cell as u8;
+        // by index, as no element is known after `iter_mut`; the turn goes on from place to place
         for place in 0..self.roster.places - 1 {
             turn = self.next_turn(place, turn).unwrap();
             line[place + 1] = turn.cell as u8;
@@ -69,6 +71,7 @@ impl Roster {
         ensures turn { IsTurn (begun_by (way_of self.now) (self.now.places - 1)) k result }
         ensures filled { IfSome result (λ turn. Filled number_ring (way_of self.now) turn.cell self.now.places 0 cells.new) }
     {
+        // a loop, as the number goes down by the lines of each cell passed, and each cell fills the cells anew
         let mut number = k;
         for cell in 0..CELLS {
             let count = self.fill(cells, cell).value;
@@ -79,35 +82,25 @@ impl Roster {
         }
         None
     }
-}
 
-/// Writes the line with a number, if there are so many, and says whether there are, where there is room for
-/// the working values and the line.
-fn pick_line<P: Passage>(
-    passage: &P,
-    n: usize,
-    memory: &mut [Number],
-    line: &mut [u8],
-    k: u32,
-) -> bool
-    requires { (0 < n) × ((n ≤ 64) × ((k < 1000000000) × ((48 * n ≤ length memory.old) × (n ≤ length line.old)))) }
-    ensures answer { result ≡ is_some (slice_get (roster (P.way passage.now) n) k) }
-    ensures line { line.new ≡ written (slice_get (roster (P.way passage.now) n) k) line.old }
-    ensures beyond { drop (48 * n) memory.new ≡ drop (48 * n) memory.old }
-{
-    let roster = Roster::of(passage, n);
-    let cells = &mut memory[..CELLS * n];
-    let Some(start) = roster.first_turn(cells, k) else {
-        return false;
-    };
-    let store = Store {
-        roster: &roster,
-        goal: start.cell,
-        from: 0,
-        cells,
-    };
-    store.trace_number(start.number, &mut line[..n]);
-    true
+    /// Writes the line with a number, if there are so many, and says whether there are.
+    fn pick_line(&self, cells: &mut [Number], line: &mut [u8], k: u32) -> bool
+        requires { (k < 1000000000) × ((length cells.old ≡ 48 * self.now.places) × (length line.old ≡ self.now.places)) }
+        ensures answer { result ≡ is_some (slice_get (roster (way_of self.now) self.now.places) k) }
+        ensures line { line.new ≡ written (slice_get (roster (way_of self.now) self.now.places) k) line.old }
+    {
+        let Some(start) = self.first_turn(cells, k) else {
+            return false;
+        };
+        let store = Store {
+            roster: self,
+            goal: start.cell,
+            from: 0,
+            cells,
+        };
+        store.trace_number(start.number, line);
+        true
+    }
 }
 
 /// Writes the line of `n` cells that goes round and has the number `k`, counted from 0 in order, and says
@@ -127,5 +120,6 @@ pub fn pick<P: Passage>(
     ensures refused { is_ok result ≡ false → memory.new ≡ memory.old }
 {
     pick_for(n, memory.len(), line.len(), k)?;
-    Ok(pick_line(passage, n, memory, line, k))
+    let roster = Roster::of(passage, n);
+    Ok(roster.pick_line(&mut memory[..CELLS * n], &mut line[..n], k))
 }

@@ -10,6 +10,8 @@ use measure::algebra::Measure;
 
 /// One value for each place and cell, in a slice lent by the caller: from one place on, what all ways on
 /// from the cell to the goal come to.
+// Public, as what it holds is one of the engine's promises; no member is. `from` is a number that only contracts
+// read: a ghost field states a fact, and can hold none.
 #[derive(Drop)]
 pub struct Store<'a, M: Measure> {
     pub(crate) roster: &'a Roster,

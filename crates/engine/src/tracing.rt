@@ -24,6 +24,7 @@ impl<M: Choosing> Store<'_, M> {
         requires { (self.now.from ≤ place + 1) × ((place + 1 < self.now.roster.now.places) × (cell < 48)) }
         ensures { IsFirst (attains M.ring M.picks (way_of self.now.roster.now) self.now.goal (self.now.roster.now.places - 1 - (place + 1)) place cell prefix total) result }
     {
+        // a loop: tried with `find`, whose closure needs clauses of its own that say as much as the invariant
         for next in 0..CELLS {
             if self.roster.verdicts.may(place, cell, next) {
                 let after = self.get(place + 1, next);
@@ -46,6 +47,7 @@ impl<M: Choosing> Store<'_, M> {
         let mut cell = self.goal;
         let mut prefix = M::ONE;
         line[0] = cell as u8;
+        // by index, as no element is known after `iter_mut`; cell and prefix go on from place to place
         for place in 0..self.roster.places - 1 {
             let next = self.next_best(place, cell, prefix, total).unwrap();
             line[place + 1] = next as u8;
@@ -62,6 +64,7 @@ impl Roster {
         ensures start { IsFirst (λ c. M.picks (lines_from M.ring self.now c) total) result }
         ensures filled { IfSome result (λ start. Filled M.ring (way_of self.now) start self.now.places 0 cells.new) }
     {
+        // a loop, as each start cell fills the cells anew
         for start in 0..CELLS {
             if self.fill(cells, start).chooses(total) {
                 return Some(start);
@@ -69,36 +72,27 @@ impl Roster {
         }
         None
     }
-}
 
-/// Writes the first line of the joined weight, if there is a line at all, and says whether there is, where
-/// there is room for the working values and the line.
-fn first_line<M: Choosing, P: Passage>(
-    passage: &P,
-    n: usize,
-    memory: &mut [M],
-    line: &mut [u8],
-) -> bool
-    requires { (0 < n) × ((n ≤ 64) × ((48 * n ≤ length memory.old) × (n ≤ length line.old))) }
-    ensures answer { result ≡ is_some (first_best M.ring M.picks n (roster (P.way passage.now) n)) }
-    ensures line { line.new ≡ written (first_best M.ring M.picks n (roster (P.way passage.now) n)) line.old }
-    ensures beyond { drop (48 * n) memory.new ≡ drop (48 * n) memory.old }
-{
-    let roster = Roster::of(passage, n);
-    let cells = &mut memory[..CELLS * n];
-    let total: M = roster.weigh(cells);
-    if M::NONE.chooses(total) {
-        return false;
+    /// Writes the first line of the joined weight, if there is a line at all, and says whether there is.
+    fn first_line<M: Choosing>(&self, cells: &mut [M], line: &mut [u8]) -> bool
+        requires { (length cells.old ≡ 48 * self.now.places) × (length line.old ≡ self.now.places) }
+        ensures answer { result ≡ is_some (first_best M.ring M.picks self.now.places (roster (way_of self.now) self.now.places)) }
+        ensures line { line.new ≡ written (first_best M.ring M.picks self.now.places (roster (way_of self.now) self.now.places)) line.old }
+    {
+        let total: M = self.weigh(cells);
+        if M::NONE.chooses(total) {
+            return false;
+        }
+        let goal = self.best_start(cells, total).unwrap();
+        let store = Store {
+            roster: self,
+            goal,
+            from: 0,
+            cells,
+        };
+        store.trace(total, line);
+        true
     }
-    let goal = roster.best_start(cells, total).unwrap();
-    let store = Store {
-        roster: &roster,
-        goal,
-        from: 0,
-        cells,
-    };
-    store.trace(total, &mut line[..n]);
-    true
 }
 
 /// Writes the first line of `n` cells that goes round and whose weight is the joined weight of all of them,
@@ -117,5 +111,6 @@ pub fn first<M: Choosing, P: Passage>(
     ensures refused { is_ok result ≡ false → memory.new ≡ memory.old }
 {
     line_for(n, memory.len(), line.len())?;
-    Ok(first_line(passage, n, memory, line))
+    let roster = Roster::of(passage, n);
+    Ok(roster.first_line(&mut memory[..CELLS * n], &mut line[..n]))
 }

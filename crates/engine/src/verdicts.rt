@@ -4,6 +4,7 @@ ghost use Rattle.std.specs.Prelude.{◌≡◌, ℕ, ◌+◌, ◌*◌, ◌<◌, �
 ghost use Rattle.engine.specs.Words.{bit, inside, said};
 
 use crate::passage::Passage;
+use std::array;
 
 /// How many cells there are: two for each of 24 keys.
 pub const CELLS: usize = 48;
@@ -12,6 +13,9 @@ pub const CELLS: usize = 48;
 pub const PLACES: usize = 64;
 
 /// The verdicts of some passage: bit `d` of a place's word for a cell says whether the cell `d` may follow.
+// Bits and no array of bools: a place's verdicts on 48 cells stand in one word, which is read at once for each
+// cell that is filled and which, if empty, skips all of them; and the table, which is moved, is of 24 KiB and not 144.
+// Public, as what it says is one of the engine's promises.
 #[derive(Clone, Copy)]
 pub struct Verdicts {
     words: [[u64; CELLS]; PLACES],
@@ -28,18 +32,6 @@ fn word_of<P: Passage>(passage: &P, place: usize, cell: usize) -> u64
     word
 }
 
-/// The words of all cells at a place.
-fn words_at<P: Passage>(passage: &P, place: usize) -> [u64; CELLS]
-    ensures { (c d : ℕ) → c < 48 → d < 48 → bit (slice_index result c) d ≡ P.way passage.now place c d }
-{
-    // a loop, as std has no lemma for what `array::from_fn` gives
-    let mut words = [0; CELLS];
-    for cell in 0..CELLS {
-        words[cell] = word_of(passage, place, cell);
-    }
-    words
-}
-
 /// Whether a word says yes to a cell.
 pub(crate) fn says(word: u64, next: usize) -> bool
     requires { next < 48 }
@@ -53,12 +45,18 @@ impl Verdicts {
     pub fn of<P: Passage>(passage: &P, places: usize) -> Verdicts
         ensures { (t c d : ℕ) → said result.words t c d ≡ ((nat_lt t places && inside t c d) && P.way passage.now t c d) }
     {
-        // by index, as no element is known after `iter_mut`
-        let mut words = [[0; CELLS]; PLACES];
-        for place in 0..places.min(PLACES) {
-            words[place] = words_at(passage, place);
+        let words_at = |place| -> [u64; CELLS]
+            ensures { (c d : ℕ) → c < 48 → d < 48 → bit (slice_index result c) d ≡ (nat_lt place places && P.way passage.entry.now place c d) }
+        {
+            if place < places {
+                array::from_fn(|cell| word_of(passage, place, cell))
+            } else {
+                [0; CELLS]
+            }
+        };
+        Verdicts {
+            words: array::from_fn(words_at),
         }
-        Verdicts { words }
     }
 
     /// The word of a place and a cell.

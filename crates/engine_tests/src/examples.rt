@@ -3,8 +3,6 @@
 ghost use Rattle.engine_tests.specs.Examples.{FanListed};
 
 /// States the lines of a passage that opens from one cell to three.
-pub fn fan_is_listed() -> u8
+pub fn fan_is_listed()
     ensures { FanListed }
-{
-    0
-}
+{}

@@ -25,10 +25,10 @@ mod tests {
         let mut memory = [Number { value: 0 }; 144];
         let mut line = [99; 4];
         assert_eq!(rt; weigh(&Three, 3, &mut memory)?.value, 4);
-        assert_eq!(rt; pick(&Three, 3, &mut memory, &mut line, 2)?, true);
-        assert!(rt; line[0] == 0 && line[1] == 4 && line[2] == 0 && line[3] == 99);
-        assert_eq!(rt; pick(&Three, 3, &mut memory, &mut line, 4)?, false);
-        assert!(rt; line[1] == 4);
+        assert!(rt; pick(&Three, 3, &mut memory, &mut line, 2)?);
+        assert!(rt; line == [0, 4, 0, 99]);
+        assert!(rt; !pick(&Three, 3, &mut memory, &mut line, 4)?);
+        assert!(rt; line == [0, 4, 0, 99]);
         Ok(())
     }
 
@@ -36,8 +36,8 @@ mod tests {
     fn least_and_first(rt: HostRuntime) -> Result<(), Fail> {
         let mut memory = [Movement { sum: 0 }; 144];
         let mut line = [99; 3];
-        assert_eq!(rt; first(&Three, 3, &mut memory, &mut line)?, true);
-        assert!(rt; line[0] == 0 && line[1] == 2 && line[2] == 0);
+        assert!(rt; first(&Three, 3, &mut memory, &mut line)?);
+        assert!(rt; line == [0, 2, 0]);
         assert_eq!(rt; weigh(&Three, 3, &mut memory)?.sum, 2);
         Ok(())
     }
@@ -46,9 +46,9 @@ mod tests {
     fn none_and_one_place(rt: HostRuntime) -> Result<(), Fail> {
         let mut line = [99; 3];
         let mut bits = [Possible { found: true }; 144];
-        assert_eq!(rt; first(&Always(false), 3, &mut bits, &mut line)?, false);
-        assert_eq!(rt; first(&Always(true), 1, &mut bits, &mut line)?, true);
-        assert!(rt; line[0] == 0 && line[1] == 99);
+        assert!(rt; !first(&Always(false), 3, &mut bits, &mut line)?);
+        assert!(rt; first(&Always(true), 1, &mut bits, &mut line)?);
+        assert!(rt; line == [0, 99, 99]);
         Ok(())
     }
 
@@ -90,8 +90,8 @@ mod tests {
         let mut memory = [Number { value: 0 }; 384];
         let mut line = [0; 8];
         assert_eq!(rt; weigh(&Always(true), 8, &mut memory)?.value, 1_000_000_000);
-        assert_eq!(rt; pick(&Always(true), 8, &mut memory, &mut line, 49)?, true);
-        assert!(rt; line[5] == 0 && line[6] == 1 && line[7] == 1);
+        assert!(rt; pick(&Always(true), 8, &mut memory, &mut line, 49)?);
+        assert!(rt; line == [0, 0, 0, 0, 0, 0, 1, 1]);
         Ok(())
     }
 }

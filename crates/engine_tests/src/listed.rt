@@ -22,7 +22,9 @@ impl Passage for Three {
     ghost way = { λ p t c d. (t == 0 && (c == 0 && (d == 2 || d == 4))) || ((t == 1 && (d == 0 || d == 6)) || (t == 2 && d == 0)) };
 
     fn may(&self, place: usize, cell: usize, next: usize) -> bool {
-        (place == 0) & ((cell == 0) & ((next == 2) | (next == 4)))
-            | ((place == 1) & ((next == 0) | (next == 6)) | (place == 2) & (next == 0))
+        matches!(
+            (place, cell, next),
+            (0, 0, 2 | 4) | (1, _, 0 | 6) | (2, _, 0)
+        )
     }
 }

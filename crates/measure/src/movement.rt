@@ -4,6 +4,8 @@ ghost use Rattle.std.specs.Prelude.{◌≤◌};
 
 use crate::algebra::{Choosing, Measure};
 
+// By the rule of the measure a sum of 1,000,000 stands for no line, also where sums of steps come to it; so it is
+// a number like the others, and no Option.
 const CAP: u32 = 1_000_000;
 
 /// A sum of step sizes below 1,000,000, which stands for no line at all.
