@@ -1,5 +1,5 @@
 -- Places and combinations looked at in order, up to the first no. Assumes nothing.
-use Rattle.std.proofs.Common.{◌≡◌, ℕ, zero, suc, ◌+◌, ◌%◌, ◌<◌, ◌≤◌, Bool, true, false, cond, not, List, [], ◌∷◌, length, get_or, drop, Some, None, Ok, Err, Option, Result, sym, ap, ◌∙◌, subst, ap₂, ⊎_elim, mod-eq_of_lt, arith}
+use Rattle.std.proofs.Common.{◌≡◌, ℕ, zero, suc, ◌+◌, ◌%◌, ◌<◌, ◌≤◌, Bool, true, false, cond, not, ◌&&◌, List, [], ◌∷◌, length, get_or, drop, Some, None, Ok, Err, Option, Result, sym, ap, ◌∙◌, subst, ap₂, ⊎_elim, mod-eq_of_lt, arith}
 use Rattle.std.proofs.lemmas.List.{at_drop_more, at_drop_all}
 use Rattle.std.proofs.lemmas.Bool.{cases_eq}
 use Rattle.theme.specs.Refusals.{answer, or_next}
@@ -9,7 +9,8 @@ use Rattle.engine.proofs.Firsts.{or_else, first_with-++}
 use Rattle.rules.specs.declared.combination.Combination.{Combination}
 use Rattle.rules.specs.declared.refusal.Refusal.{Refusal}
 use Rattle.rules.specs.declared.refusal.Refusal.TheVariants.{BookSaysNo}
-use Rattle.rules.specs.Plain.{all_in_range, original}
+use Rattle.rules.specs.Meeting.{moment_of, succession_of}
+use Rattle.rules.specs.Plain.{Plain, all_in_range, original}
 use Rattle.rules.specs.Questions.{places_asked, at_place, unkept, denied, denied_in}
 use Rattle.rules.specs.Standing.{Asked, kept_at, agrees}
 use Rattle.standing.proofs.Agreeing.{rest_in_range}
@@ -44,6 +45,11 @@ unkept_at a line t = not (kept_at a t (cell_at (places_asked a) line t))
 -- does the book say no at a place of a combination?
 abbrev pub denied_at : Asked → List ℕ → Combination → ℕ → Bool
 denied_at a line c t = not (agrees a t (cell_at (places_asked a) line t) (cell_at (places_asked a) line (t + 1)) c)
+
+-- where a meeting is with the sheet asked of, the book is asked of both the same
+pub pleases_agrees : (a : Asked) (p : Plain) → p ≡ a.sheet → (t cell next : ℕ) (c : Combination) → (a.admits (moment_of p c t cell) && a.allows (succession_of p c t cell next)) ≡ agrees a t cell next c
+pleases_agrees a p same t cell next c =
+    ap (λ (s : Plain). a.admits (moment_of s c t cell) && a.allows (succession_of s c t cell next)) same
 
 module _ (a : Asked) (line : List ℕ) (size : length line ≡ places_asked a) where
   -- the cell at a place, and the next one, counted by the line's own length
