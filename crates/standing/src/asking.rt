@@ -90,6 +90,7 @@ impl<B: Book> Asking<'_, B> {
     }
 
     // Whether the book says yes in each listed combination.
+    // A loop: in a closure for `all` the two facts of a meeting stay open, and a clause there would say them again.
     fn agrees_in_all(&self, place: usize, cell: u8, next: u8) -> bool
         requires { place < places_of self.now.sheet.now }
         ensures { result ≡ every (agrees (asked_by B.admits B.allows self.now) place cell next) self.now.sheet.now.list }

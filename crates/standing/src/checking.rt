@@ -29,12 +29,10 @@ impl<B: Book> Judged<'_, B> {
     fn first_unkept(&self) -> Option<usize>
         ensures { result ≡ unkept (asked_by B.admits B.allows self.now.asking.now) self.now.line.now }
     {
-        for (place, cell) in self.line.iter().enumerate() {
-            if !self.asking.keeps_all(place, *cell) {
-                return Some(place);
-            }
-        }
-        None
+        self.line
+            .iter()
+            .enumerate()
+            .position(|(place, cell)| !self.asking.keeps_all(place, *cell))
     }
 
     // The first place of a meeting at which the book says no to the moment or to the succession out of it.
@@ -43,16 +41,14 @@ impl<B: Book> Judged<'_, B> {
         ensures { result ≡ denied (asked_by B.admits B.allows self.now.asking.now) self.now.line.now meeting.now.combination }
     {
         let line = self.line;
-        for (place, cell) in line.iter().enumerate() {
+        line.iter().enumerate().position(|(place, cell)| {
             let next = line[(place + 1) % line.len()];
-            if !meeting.pleases(self.asking.book, place, *cell, next) {
-                return Some(place);
-            }
-        }
-        None
+            !meeting.pleases(self.asking.book, place, *cell, next)
+        })
     }
 
     // Sees that the book says yes everywhere in each listed combination.
+    // A loop: in a closure for `find_map` the two facts of a meeting stay open, and a clause there would say them again.
     fn check_agreed(&self) -> Result<(), Refusal>
         ensures { result ≡ answer tt (denied_in (asked_by B.admits B.allows self.now.asking.now) self.now.line.now 0 self.now.asking.now.sheet.now.list) }
     {

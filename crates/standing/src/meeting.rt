@@ -13,7 +13,7 @@ use sheet::draft::Closed;
 use theme::place::{Mark, Place};
 use theme::theme::Theme;
 
-/// A closed sheet and a combination in range of it.
+// A closed sheet and a combination with an index in range and one of its places for an entry.
 #[derive(Drop)]
 pub(crate) struct Meeting<'a> {
     pub(crate) sheet: &'a Closed,
