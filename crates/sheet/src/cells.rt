@@ -1,18 +1,33 @@
 // Which cells make a line. Knows nothing of themes, books or sheets.
+// A cell is a number, since the rules know it by its number.
 ghost use Rattle.std.specs.Prelude.{◌≡◌};
-ghost use Rattle.rules.specs.Cells.{cell_lawful, wrong_cell};
+ghost use Rattle.rules.specs.Cells.{key_of, held_cell, cell_lawful, wrong_cell};
 
 /// The number of different cells: two for each of the 24 keys.
 pub const CELLS: u8 = 48;
+
+/// The key of a cell.
+pub fn key_of(cell: u8) -> u8
+    ensures { result ≡ key_of cell }
+{
+    cell / 2
+}
+
+/// Whether a cell is held over from the place before.
+pub fn is_held(cell: u8) -> bool
+    ensures { result ≡ held_cell cell }
+{
+    cell % 2 == 1
+}
 
 /// Whether a cell may stand behind another, or first where there is none.
 pub fn is_lawful(before: Option<u8>, cell: u8) -> bool
     ensures { result ≡ cell_lawful before cell }
 {
-    let struck = cell % 2 == 0;
+    let struck = !is_held(cell);
     match before {
         None => cell < CELLS && struck,
-        Some(before) => cell < CELLS && (struck || before / 2 == cell / 2),
+        Some(before) => cell < CELLS && (struck || key_of(before) == key_of(cell)),
     }
 }
 

@@ -1,23 +1,22 @@
 // What a question is asked of, and which cell may follow which as far as it goes.
 // Knows nothing of measures.
-ghost use Rattle.std.specs.Prelude.{◌≡◌, ◌<◌, ◌≤◌, true, Some, None, MatchResult};
-ghost use Rattle.counterpoint.specs.Interval.{shift_in_range};
+ghost use Rattle.std.specs.Prelude.{◌≡◌, ◌<◌, ◌≤◌, ◌&&◌, true, Some, None, MatchResult};
 ghost use Rattle.theme.specs.Refusals.{first_no};
 ghost use Rattle.engine.specs.Lines.{every};
+ghost use Rattle.rules.specs.Meeting.{moment_of, succession_of};
 ghost use Rattle.rules.specs.Plain.{places_of};
 ghost use Rattle.rules.specs.Questions.{base_questions, tried_below};
 ghost use Rattle.rules.specs.Standing.{agrees, keeps, kept_at, tried_at, way};
 ghost use Rattle.standing.specs.Asking.{asked_by};
 
 use super::compass::Compass;
-use super::meeting::{moment, succession};
+use super::meeting::Meeting;
 use counterpoint::book::Book;
 use engine::passage::Passage;
 use engine::verdicts::CELLS;
-use rules::combination::Combination;
 use rules::refusal::Refusal;
 use rules::trial::Trial;
-use sheet::cells::is_lawful;
+use sheet::cells::{is_lawful, key_of};
 use sheet::draft::Closed;
 
 /// A closed sheet, a book and a compass: what every question is asked of.
@@ -52,6 +51,16 @@ fn tried_key(trial: Option<Trial>, place: usize) -> Option<u8>
     }
 }
 
+impl Meeting<'_> {
+    // Whether a book says yes to a moment and to the succession out of it.
+    pub(crate) fn pleases<B: Book>(&self, book: &B, place: usize, cell: u8, next: u8) -> bool
+        requires { place < places_of self.now.sheet.now }
+        ensures { result ≡ (B.admits book.now (moment_of self.now.sheet.now self.now.combination place cell) && B.allows book.now (succession_of self.now.sheet.now self.now.combination place cell next)) }
+    {
+        book.admits(self.moment(place, cell)) && book.allows(self.succession(place, cell, next))
+    }
+}
+
 impl<B: Book> Asking<'_, B> {
     /// Sees that a theme is loaded and a tried place is one of its places, and gives the number of places.
     pub fn check_trial(&self) -> Result<usize, Refusal>
@@ -73,39 +82,26 @@ impl<B: Book> Asking<'_, B> {
         requires { place < places_of self.now.sheet.now }
         ensures { result ≡ kept_at (asked_by B.admits B.allows self.now) place cell }
     {
-        let key = cell / 2;
+        let key = key_of(cell);
         let fixed = self.sheet.fixings()[place];
         self.compass.has(key)
             && keeps_key(tried_key(self.compass.trial(), place), key)
             && keeps_key(fixed, key)
     }
 
-    // Whether the book says yes in a combination to a moment and to the succession out of it.
-    pub(crate) fn agrees_in(
-        &self,
-        combination: Combination,
-        place: usize,
-        cell: u8,
-        next: u8,
-    ) -> bool
-        requires { (place < places_of self.now.sheet.now) × ((combination.entry < places_of self.now.sheet.now) × (shift_in_range combination.jv ≡ true)) }
-        ensures { result ≡ agrees (asked_by B.admits B.allows self.now) place cell next combination }
-    {
-        self.book
-            .admits(moment(self.sheet, combination, place, cell))
-            && self
-                .book
-                .allows(succession(self.sheet, combination, place, cell, next))
-    }
-
     // Whether the book says yes in each listed combination.
+    // A loop: in a closure for `all` the two facts of a meeting stay open, and a clause there would say them again.
     fn agrees_in_all(&self, place: usize, cell: u8, next: u8) -> bool
         requires { place < places_of self.now.sheet.now }
         ensures { result ≡ every (agrees (asked_by B.admits B.allows self.now) place cell next) self.now.sheet.now.list }
     {
         let combinations = self.sheet.combinations();
         for combination in combinations {
-            if !self.agrees_in(*combination, place, cell, next) {
+            let meeting = Meeting {
+                sheet: self.sheet,
+                combination: *combination,
+            };
+            if !meeting.pleases(self.book, place, cell, next) {
                 return false;
             }
         }

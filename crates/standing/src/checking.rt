@@ -1,7 +1,6 @@
 // Whether a given line stands, and if not, where it first fails.
 // Knows nothing of measures.
-ghost use Rattle.std.specs.Prelude.{◌≡◌, ◌<◌, true, length};
-ghost use Rattle.counterpoint.specs.Interval.{shift_in_range};
+ghost use Rattle.std.specs.Prelude.{◌≡◌, length};
 ghost use Rattle.theme.specs.Refusals.{answer, or_next};
 ghost use Rattle.rules.specs.Plain.{places_of};
 ghost use Rattle.rules.specs.Questions.{at_place, unkept, denied, denied_in, check_no};
@@ -12,47 +11,55 @@ ghost use Rattle.rules.specs.Faults.{Kept, told_done, unweighed};
 ghost use Rattle.standing.specs.Asking.{asked_by, handed_by};
 
 use super::asking::Asking;
+use super::meeting::Meeting;
 use counterpoint::book::Book;
-use rules::combination::Combination;
 use rules::refusal::Refusal;
 use sheet::cells::wrong_cell;
 
-impl<B: Book> Asking<'_, B> {
-    // The first place at which a line does not keep the compass, the trial or the key fixed there.
-    fn first_unkept(&self, line: &[u8]) -> Option<usize>
-        requires { length line.now ≡ places_of self.now.sheet.now }
-        ensures { result ≡ unkept (asked_by B.admits B.allows self.now) line.now }
+// An asking and a line as long as its theme.
+#[derive(Drop)]
+struct Judged<'a, B> {
+    asking: &'a Asking<'a, B>,
+    line: &'a [u8],
+    ghost long: { length line.now ≡ places_of asking.now.sheet.now },
+}
+
+impl<B: Book> Judged<'_, B> {
+    // The first place at which the line does not keep the compass, the trial or the key fixed there.
+    fn first_unkept(&self) -> Option<usize>
+        ensures { result ≡ unkept (asked_by B.admits B.allows self.now.asking.now) self.now.line.now }
     {
-        for (place, cell) in line.iter().enumerate() {
-            if !self.keeps_all(place, *cell) {
-                return Some(place);
-            }
-        }
-        None
+        self.line
+            .iter()
+            .enumerate()
+            .position(|(place, cell)| !self.asking.keeps_all(place, *cell))
     }
 
-    // The first place of a combination at which the book says no to the moment or to the succession out of it.
-    fn first_denied(&self, line: &[u8], combination: Combination) -> Option<usize>
-        requires { (length line.now ≡ places_of self.now.sheet.now) × ((combination.entry < places_of self.now.sheet.now) × (shift_in_range combination.jv ≡ true)) }
-        ensures { result ≡ denied (asked_by B.admits B.allows self.now) line.now combination }
+    // The first place of a meeting at which the book says no to the moment or to the succession out of it.
+    fn first_denied(&self, meeting: &Meeting<'_>) -> Option<usize>
+        requires { meeting.now.sheet.now ≡ self.now.asking.now.sheet.now }
+        ensures { result ≡ denied (asked_by B.admits B.allows self.now.asking.now) self.now.line.now meeting.now.combination }
     {
-        for (place, cell) in line.iter().enumerate() {
+        let line = self.line;
+        line.iter().enumerate().position(|(place, cell)| {
             let next = line[(place + 1) % line.len()];
-            if !self.agrees_in(combination, place, *cell, next) {
-                return Some(place);
-            }
-        }
-        None
+            !meeting.pleases(self.asking.book, place, *cell, next)
+        })
     }
 
     // Sees that the book says yes everywhere in each listed combination.
-    fn check_agreed(&self, line: &[u8]) -> Result<(), Refusal>
-        requires { length line.now ≡ places_of self.now.sheet.now }
-        ensures { result ≡ answer tt (denied_in (asked_by B.admits B.allows self.now) line.now 0 self.now.sheet.now.list) }
+    // A loop: in a closure for `find_map` the two facts of a meeting stay open, and a clause there would say them again.
+    fn check_agreed(&self) -> Result<(), Refusal>
+        ensures { result ≡ answer tt (denied_in (asked_by B.admits B.allows self.now.asking.now) self.now.line.now 0 self.now.asking.now.sheet.now.list) }
     {
-        let combinations = self.sheet.combinations();
+        let sheet = self.asking.sheet;
+        let combinations = sheet.combinations();
         for (number, combination) in combinations.iter().enumerate() {
-            if let Some(place) = self.first_denied(line, *combination) {
+            let meeting = Meeting {
+                sheet,
+                combination: *combination,
+            };
+            if let Some(place) = self.first_denied(&meeting) {
                 return Err(Refusal::BookSaysNo {
                     combination: number,
                     place,
@@ -62,16 +69,14 @@ impl<B: Book> Asking<'_, B> {
         Ok(())
     }
 
-    // Sees that a line of as many cells as places keeps compass, trial and fixings, and that the book says yes
-    // everywhere.
-    fn check_places(&self, line: &[u8]) -> Result<(), Refusal>
-        requires { length line.now ≡ places_of self.now.sheet.now }
-        ensures { result ≡ answer tt (or_next (at_place NotKept (unkept (asked_by B.admits B.allows self.now) line.now)) (denied_in (asked_by B.admits B.allows self.now) line.now 0 self.now.sheet.now.list)) }
+    // Sees that the line keeps compass, trial and fixings, and that the book says yes everywhere.
+    fn check_places(&self) -> Result<(), Refusal>
+        ensures { result ≡ answer tt (or_next (at_place NotKept (unkept (asked_by B.admits B.allows self.now.asking.now) self.now.line.now)) (denied_in (asked_by B.admits B.allows self.now.asking.now) self.now.line.now 0 self.now.asking.now.sheet.now.list)) }
     {
-        if let Some(place) = self.first_unkept(line) {
+        if let Some(place) = self.first_unkept() {
             return Err(Refusal::NotKept { place });
         }
-        self.check_agreed(line)
+        self.check_agreed()
     }
 }
 
@@ -88,5 +93,5 @@ pub fn check<B: Book>(asking: &Asking<'_, B>, line: &[u8]) -> Result<(), Refusal
     if let Some(place) = wrong_cell(line) {
         return Err(Refusal::NotALine { place });
     }
-    asking.check_places(line)
+    Judged { asking, line }.check_places()
 }

@@ -9,9 +9,10 @@ use rules::refusal::Refusal;
 use rules::trial::Trial;
 use std::marker::Model;
 use theme::place::HIGHEST_KEY;
+use theme::theme::MOST_PLACES;
 
 /// The last place that can be tried.
-const LAST_PLACE: usize = 63;
+const LAST_PLACE: usize = MOST_PLACES - 1;
 
 /// The keys that a line may use, from the lowest to the highest, and at most one tried key.
 #[derive(Clone, Copy, PartialEq, Eq, Hash, Debug)]

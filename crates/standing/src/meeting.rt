@@ -8,24 +8,29 @@ ghost use Rattle.rules.specs.Meeting.{theme_at, voice_of_mark, voice_of_cell, ac
 
 use counterpoint::moments::{Accent, Moment, Succession, Voice};
 use rules::combination::Combination;
+use sheet::cells::{is_held, key_of};
 use sheet::draft::Closed;
 use theme::place::{Mark, Place};
 use theme::theme::Theme;
 
-/// What stands where a theme has no place.
-const NO_PLACE: Place = Place {
-    key: 0,
-    mark: Mark::Pin,
-};
+// A closed sheet and a combination with an index in range and one of its places for an entry.
+#[derive(Drop)]
+pub(crate) struct Meeting<'a> {
+    pub(crate) sheet: &'a Closed,
+    pub(crate) combination: Combination,
+    ghost shifted: { shift_in_range combination.jv ≡ true },
+    ghost entered: { combination.entry < places_of sheet.now },
+}
 
 // The theme's place with this number.
 fn place_at(theme: &Theme, number: usize) -> Place
+    requires { number < length theme.now.places }
     ensures { result ≡ theme_at theme.now number }
 {
-    theme.place(number).unwrap_or(NO_PLACE)
+    theme.place(number).unwrap()
 }
 
-// How the theme sounds at a place.
+// How the theme sounds at a place: no From can say it, both types being other crates'.
 fn voice_of_mark(mark: Mark) -> Voice
     ensures { result ≡ voice_of_mark mark }
 {
@@ -39,7 +44,7 @@ fn voice_of_mark(mark: Mark) -> Voice
 fn voice_of_cell(cell: u8) -> Voice
     ensures { result ≡ voice_of_cell cell }
 {
-    if cell % 2 == 1 {
+    if is_held(cell) {
         Voice::Held
     } else {
         Voice::Struck
@@ -72,56 +77,53 @@ fn interval(cell: u8, key: u8, jv: i32) -> i32
     requires { shift_in_range jv ≡ true }
     ensures { result ≡ (pos (key_of cell) -ℤ pos key) +ℤ jv }
 {
-    step(key, cell / 2) + jv
+    step(key, key_of(cell)) + jv
 }
 
-// The theme's place that a place of the line meets, counted round the barrel.
-fn met(sheet: &Closed, combination: Combination, place: usize) -> usize
-    requires { (0 < places_of sheet.now) × ((place ≤ places_of sheet.now) × (combination.entry < places_of sheet.now)) }
-    ensures value { result ≡ met sheet.now combination place }
-    ensures few { places_of sheet.now ≤ 64 }
-{
-    let places = sheet.theme().len();
-    (place + combination.entry) % places
-}
-
-// The moment of a cell at a place of the line.
-pub(crate) fn moment(sheet: &Closed, combination: Combination, place: usize, cell: u8) -> Moment
-    requires { (place < places_of sheet.now) × ((combination.entry < places_of sheet.now) × (shift_in_range combination.jv ≡ true)) }
-    ensures { result ≡ moment_of sheet.now combination place cell }
-{
-    let theme = sheet.theme();
-    let met = met(sheet, combination, place);
-    let sounding = place_at(theme, met);
-    Moment {
-        interval: interval(cell, sounding.key, combination.jv),
-        line: voice_of_cell(cell),
-        theme: voice_of_mark(sounding.mark),
-        accent: accent_at(theme, met),
+impl Meeting<'_> {
+    // The theme's place that a place of the line meets, counted round the barrel.
+    fn met(&self, place: usize) -> usize
+        requires { place ≤ places_of self.now.sheet.now }
+        ensures value { result ≡ met self.now.sheet.now self.now.combination place }
+        ensures is_place { result < places_of self.now.sheet.now }
+        ensures few { places_of self.now.sheet.now ≤ 64 }
+    {
+        let places = self.sheet.theme().len();
+        (place + self.combination.entry) % places
     }
-}
 
-// The succession from a cell at a place of the line to the next cell.
-pub(crate) fn succession(
-    sheet: &Closed,
-    combination: Combination,
-    place: usize,
-    cell: u8,
-    next: u8,
-) -> Succession
-    requires { (place < places_of sheet.now) × ((combination.entry < places_of sheet.now) × (shift_in_range combination.jv ≡ true)) }
-    ensures { result ≡ succession_of sheet.now combination place cell next }
-{
-    let theme = sheet.theme();
-    let left = place_at(theme, met(sheet, combination, place));
-    let met = met(sheet, combination, place + 1);
-    let entered = place_at(theme, met);
-    Succession {
-        first: moment(sheet, combination, place, cell),
-        dx: step(cell / 2, next / 2),
-        dc: step(left.key, entered.key),
-        line: voice_of_cell(next),
-        theme: voice_of_mark(entered.mark),
-        accent: accent_at(theme, met),
+    // The moment of a cell at a place of the line.
+    pub(crate) fn moment(&self, place: usize, cell: u8) -> Moment
+        requires { place < places_of self.now.sheet.now }
+        ensures { result ≡ moment_of self.now.sheet.now self.now.combination place cell }
+    {
+        let theme = self.sheet.theme();
+        let number = self.met(place);
+        let sounding = place_at(theme, number);
+        Moment {
+            interval: interval(cell, sounding.key, self.combination.jv),
+            line: voice_of_cell(cell),
+            theme: voice_of_mark(sounding.mark),
+            accent: accent_at(theme, number),
+        }
+    }
+
+    // The succession from a cell at a place of the line to the next cell.
+    pub(crate) fn succession(&self, place: usize, cell: u8, next: u8) -> Succession
+        requires { place < places_of self.now.sheet.now }
+        ensures { result ≡ succession_of self.now.sheet.now self.now.combination place cell next }
+    {
+        let theme = self.sheet.theme();
+        let left = place_at(theme, self.met(place));
+        let number = self.met(place + 1);
+        let entered = place_at(theme, number);
+        Succession {
+            first: self.moment(place, cell),
+            dx: step(key_of(cell), key_of(next)),
+            dc: step(left.key, entered.key),
+            line: voice_of_cell(next),
+            theme: voice_of_mark(entered.mark),
+            accent: accent_at(theme, number),
+        }
     }
 }

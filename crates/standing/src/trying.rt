@@ -6,7 +6,8 @@ use super::compass::Compass;
 use rules::trial::Trial;
 
 /// A trial in force: when it ends, by whichever way, the former one is back.
-/// Made in place, of a compass and what `Compass::enter` gave: only then is its end known to its maker.
+/// Made in place, of a compass and what `Compass::enter` gave, so that its end is known there at once: a function
+/// that gave one back would need a clause that it holds the same reference.
 pub struct Trying<'a> {
     pub compass: &'a mut Compass,
     pub former: Option<Trial>,

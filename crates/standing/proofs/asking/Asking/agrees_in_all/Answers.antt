@@ -2,18 +2,18 @@ use Rattle.std.proofs.Common.{sym, ◌∙◌}
 use Rattle.standing.proofs.Agreeing.{next_in_range, walked_no, walked_more, walked_all}
 use Rattle.standing.proofs.asking.Asking.agrees_in_all.Goals as goal
 
-pub agrees_in-requires : goal.agrees_in-requires
-agrees_in-requires g c =
+pub invariant_of-meeting : goal.invariant_of-meeting
+invariant_of-meeting g c =
     let in_range = next_in_range _ _ _ c.loop-combination.invariant.in_range c.loop-combination-test.true in
-    (c.requires, (in_range.0, in_range.1))
+    record { shifted = in_range.1; entered = in_range.0 }
 
-pub returns-then-not-agrees_in : goal.returns-then-not-agrees_in
-returns-then-not-agrees_in g c =
-    walked_no c.loop-combination.invariant c.loop-combination-test.true (sym c.agrees_in.ensures ∙ c.if-not-agrees_in.true) c.combinations-combinations.ensures.value
+pub returns-then-not-pleases : goal.returns-then-not-pleases
+returns-then-not-pleases g c =
+    walked_no c.loop-combination.invariant c.loop-combination-test.true (sym c.pleases.ensures ∙ c.if-not-pleases.true) c.combinations-combinations.ensures.value
 
 pub loop-combination-preserved : goal.loop-combination-preserved
 loop-combination-preserved g c =
-    walked_more c.loop-combination.invariant c.loop-combination-test.true (sym c.agrees_in.ensures ∙ c.if-not-agrees_in.false)
+    walked_more c.loop-combination.invariant c.loop-combination-test.true (sym c.pleases.ensures ∙ c.if-not-pleases.false)
 
 pub returns : goal.returns
 returns g c =

@@ -1,11 +1,11 @@
 use Rattle.standing.proofs.Agreeing.{next_in_range}
 use Rattle.standing.proofs.Looking.{refused_here, undenied_more, undenied_all}
-use Rattle.standing.proofs.asking.Asking.check_agreed.Goals as goal
+use Rattle.standing.proofs.checking.Judged.check_agreed.Goals as goal
 
-pub first_denied-requires : goal.first_denied-requires
-first_denied-requires g c =
+pub invariant_of-meeting : goal.invariant_of-meeting
+invariant_of-meeting g c =
     let in_range = next_in_range _ _ _ c.loop-number.invariant.in_range c.loop-number-test.true in
-    (c.requires, (in_range.0, in_range.1))
+    record { shifted = in_range.1; entered = in_range.0 }
 
 pub returns-in-Some : goal.returns-in-Some
 returns-in-Some g c =
