@@ -1,20 +1,26 @@
 -- From what a question answers and writes to what that means. Assumes nothing.
-use Rattle.std.proofs.Common.{◌≡◌, ℕ, ◌<◌, ◌≤◌, Bool, true, false, cond, ◌&&◌, eqb, List, [], ◌∷◌, length, take, drop, Some, None, Option, Result, sym, refl, ap, ◌∙◌, subst, arith, MatchResult}
-use Rattle.std.specs.List.{AllByRecursion}
+use Rattle.std.proofs.Common.{◌≡◌, ℕ, ◌<◌, ◌≤◌, Bool, true, false, cond, ◌&&◌, eqb, List, [], ◌∷◌, length, take, drop, is_some, Some, None, Option, Result, sym, refl, ap, ◌∙◌, subst, arith, MatchResult}
+use Rattle.std.specs.List.{AllByRecursion, slice_get}
 use Rattle.std.proofs.lemmas.List.{take_at}
 use Rattle.std.proofs.lemmas.Bool.{and_parts, eqb-true}
 use Rattle.theme.specs.Refusals.{first_no, or_next, answer}
+use Rattle.engine.specs.Answers as engine
 use Rattle.engine.specs.Answers.{written}
-use Rattle.engine.specs.Lines.{upto, every, cell_at}
+use Rattle.engine.specs.Lines.{upto, every, cell_at, roster}
+use Rattle.engine.specs.declared.unfit.Unfit.{Unfit}
 use Rattle.rules.specs.declared.refusal.Refusal.{Refusal}
 use Rattle.rules.specs.declared.refusal.Refusal.TheVariants.{NoLineStands, NumberNotBelowCount}
 use Rattle.rules.specs.Refusals.{refusal_number}
 use Rattle.rules.specs.Cells.{cells_lawful}
-use Rattle.rules.specs.Plain.{Plain, unless}
+use Rattle.rules.specs.Plain.{Plain, places_of, unless}
 use Rattle.rules.specs.Compasses.{PlainCompass}
-use Rattle.rules.specs.Standing.{Asked, standing_lines, kept_at, agrees_all_round}
+use Rattle.rules.specs.Standing.{Asked, standing_lines, kept_at, agrees_all_round, way}
+use Rattle.rules.specs.Courses.{Handed, Pick, asked_of, closed_at}
+use Rattle.rules.specs.Faults.{Kept, told_line, unweighed}
+use Rattle.rules.proofs.Faultless.{pick_kept}
 use Rattle.rules.specs.Laws.{Stands, NoneStands, First, Least, Numbered, Decided, LeastFound, Picked}
-use Rattle.rules.specs.Questions.{places_asked, line_questions, pick_questions, unless_found, first_standing, least_standing, picked, decide_no, least_no, pick_no}
+use Rattle.rules.specs.Questions.{places_asked, base_questions, line_questions, pick_questions, unless_found, first_standing, least_standing, picked, decide_no, least_no, pick_no}
+use Rattle.question.proofs.Engines.{given_line, number_given, number_written}
 use Rattle.question.proofs.Laws.{first_law, none_from_empty, least_law, least_none, numbered_law, pick_below, pick_bound}
 
 -- a refusal that no question has is not the first no
@@ -79,3 +85,12 @@ module _ (a : Asked) (room cells : ℕ) (before after : List ℕ) (r : Result (U
       (pick_other a.sheet a.compass room cells number)
       (λ line is. let law = numbered_law a number line is in ((pick_below a number line is, law), stands_length a line law.0))
       (pick_bound a number)
+
+-- a line found by its number, as the engine answers
+module _ (p : Plain) (h : Handed) (n : ℕ) (known : (first_no (base_questions p h.compass) ≡ None) × (n ≡ places_of p) × (0 < n) × (n ≤ 64)) (room cells number : ℕ) (theirs : Result Bool Unfit) (before after : List ℕ) where
+  pub pick_promise : (r : Result (Unit {0}) Refusal) → r ≡ given_line NumberNotBelowCount theirs → theirs ≡ engine.unless (engine.first_no (engine.pick_questions n room cells number)) (is_some (slice_get (roster (way (asked_of p h)) n) number)) → after ≡ engine.unless_written (engine.first_no (engine.pick_questions n room cells number)) (slice_get (roster (way (asked_of p h)) n) number) before → (r ≡ answer tt (pick_no (asked_of p h) room cells number)) × (after ≡ unless (pick_no (asked_of p h) room cells number) (written (picked (asked_of p h) number) before) before) × Picked (asked_of p h) number r (take (places_of p) after) × Kept unweighed (closed_at p) (Pick h room cells number) (told_line r (take (places_of p) after)) (closed_at p)
+  pick_promise r r-is told-is line-is =
+      let answer-is = r-is ∙ number_given (asked_of p h) n known room cells number theirs told-is in
+      let line = number_written (asked_of p h) n known room cells number before after line-is in
+      let means = pick_means (asked_of p h) room cells before after r number answer-is line in
+      (answer-is, line, means, pick_kept unweighed p h room cells number r (take (places_of p) after) answer-is means)

@@ -1,5 +1,5 @@
--- Places for which the engine has room, and lines found over any choosing measure. Assumes nothing.
-use Rattle.std.specs.Prelude.{◌≡◌, ℕ, ◌*◌, ◌<◌, ◌≤◌, Bool, List, Option}
+-- Lines found over any choosing measure. Assumes nothing.
+use Rattle.std.specs.Prelude.{ℕ, Bool, List, Option}
 use Rattle.theme.specs.Refusals.{first_no, or_next}
 use Rattle.measure.specs.Algebra.{Ring}
 use Rattle.engine.specs.Weights.{first_best}
@@ -7,15 +7,6 @@ use Rattle.rules.specs.declared.refusal.Refusal.{Refusal}
 use Rattle.rules.specs.declared.refusal.Refusal.TheVariants.{NoLineStands}
 use Rattle.rules.specs.Questions.{places_asked, line_questions, unless_found}
 use Rattle.rules.specs.Standing.{Asked, standing_lines}
-
--- a number of places for which there is room
-pub record Fit (n places room : ℕ) : Type 0 where
-  pub places_are : n ≡ places
-  pub some : 0 < n
-  pub few : n ≤ 64
-  pub roomy : 48 * n ≤ room
-
--- Any choosing measure ---------------------------------------------------------------------------
 
 -- the first standing line of the joined weight, if one stands
 abbrev pub best_standing : {M : Type 0} → Ring M → (M → M → Bool) → Asked → Option (List ℕ)

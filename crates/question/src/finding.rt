@@ -11,7 +11,6 @@ ghost use Rattle.rules.specs.Laws.{Decided, LeastFound, Picked};
 ghost use Rattle.standing.specs.Asking.{asked_by, handed_by};
 ghost use Rattle.question.specs.Fits.{best_standing, best_no};
 
-use super::asked::{check_line, check_pick};
 use counterpoint::book::Book;
 use measure::algebra::Choosing;
 use measure::movement::Movement;
@@ -32,8 +31,8 @@ fn find_first<B: Book, M: Choosing>(
     ensures refused { (e : Refusal) → first_no (line_questions asking.now.sheet.now asking.now.compass.now (length memory.old) (length line.old)) ≡ Some e → memory.new ≡ memory.old }
     ensures few { first_no (line_questions asking.now.sheet.now asking.now.compass.now (length memory.old) (length line.old)) ≡ None → places_of asking.now.sheet.now ≤ 64 }
 {
-    let places = check_line(asking, memory.len(), line.len())?;
-    if !engine::tracing::first(asking, places, memory, line).unwrap() {
+    let places = asking.check_trial()?;
+    if !engine::tracing::first(asking, places, memory, line)? {
         return Err(Refusal::NoLineStands);
     }
     Ok(())
@@ -85,8 +84,8 @@ pub fn pick<B: Book>(
     ensures beyond { drop (48 * places_of asking.now.sheet.now) memory.new ≡ drop (48 * places_of asking.now.sheet.now) memory.old }
     ensures refused { (e : Refusal) → first_no (pick_questions asking.now.sheet.now asking.now.compass.now (length memory.old) (length line.old) number) ≡ Some e → memory.new ≡ memory.old }
 {
-    let places = check_pick(asking, memory.len(), line.len(), number)?;
-    if !engine::picking::pick(asking, places, memory, line, number).unwrap() {
+    let places = asking.check_trial()?;
+    if !engine::picking::pick(asking, places, memory, line, number)? {
         return Err(Refusal::NumberNotBelowCount);
     }
     Ok(())

@@ -2,7 +2,6 @@
 // Knows nothing of pages or programs.
 #![tactic(auto)]
 
-mod asked;
 pub mod examples;
 pub mod finding;
 pub mod trying;

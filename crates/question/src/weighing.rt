@@ -8,7 +8,6 @@ ghost use Rattle.rules.specs.Laws.{ListedExactly};
 ghost use Rattle.rules.specs.Questions.{weigh_questions, count_of, weight_of};
 ghost use Rattle.standing.specs.Asking.{asked_by, handed_by};
 
-use super::asked::check_room;
 use counterpoint::book::Book;
 use measure::algebra::Measure;
 use measure::number::Number;
@@ -23,8 +22,8 @@ pub fn weigh<B: Book, M: Measure>(asking: &Asking<'_, B>, memory: &mut [M]) -> R
     ensures beyond { drop (48 * places_of asking.now.sheet.now) memory.new ≡ drop (48 * places_of asking.now.sheet.now) memory.old }
     ensures refused { is_ok result ≡ false → memory.new ≡ memory.old }
 {
-    let places = check_room(asking, memory.len())?;
-    Ok(engine::weighing::weigh(asking, places, memory).unwrap())
+    let places = asking.check_trial()?;
+    Ok(engine::weighing::weigh(asking, places, memory)?)
 }
 
 /// The number of standing lines, capped at 1,000,000,000.

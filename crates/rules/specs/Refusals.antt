@@ -2,6 +2,8 @@
 use Rattle.std.specs.Prelude.{ℕ, List, ◌++◌, codes, decimal}
 use Rattle.theme.specs.declared.refusal.WriteRefusal.{WriteRefusal}
 use Rattle.theme.specs.declared.refusal.WriteRefusal.TheVariants as theirs
+use Rattle.engine.specs.declared.unfit.Unfit.{Unfit}
+use Rattle.engine.specs.declared.unfit.Unfit.TheVariants.{Places, Memory, Line, Number}
 use Rattle.rules.specs.declared.refusal.Refusal.{Refusal}
 use Rattle.rules.specs.declared.refusal.Refusal.TheVariants.{NoTheme, ShiftOutOfRange, EntryOutOfRange, AlreadyListed, ListFull, NotListed, PlaceOutOfRange, KeyOutOfRange, CompassUnfit, TrialPlaceOutOfRange, TrialKeyOutOfCompass, TrialBeyondTheme, MemoryTooShort, LineUnfit, NumberTooLarge, NotALine, NotKept, BookSaysNo, NoLineStands, NumberNotBelowCount, OutputTooShort}
 
@@ -32,6 +34,13 @@ refusal_number OutputTooShort = 37
 abbrev pub sheet_refusal : WriteRefusal → Refusal
 sheet_refusal theirs.NoTheme = NoTheme
 sheet_refusal theirs.OutputTooShort = OutputTooShort
+
+-- what the engine has no answer for, as a refusal of the question: there are no places just where no theme is loaded
+abbrev pub question_refusal : Unfit → Refusal
+question_refusal Places = NoTheme
+question_refusal Memory = MemoryTooShort
+question_refusal Line = LineUnfit
+question_refusal Number = NumberTooLarge
 
 -- where a refusal came, in words
 abbrev pub place_words : Refusal → List ℕ

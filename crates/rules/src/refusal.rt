@@ -1,7 +1,8 @@
 // Why a call on a sheet, a compass or a line says no. Knows nothing of any of them.
 ghost use Rattle.std.specs.Prelude.{◌≡◌, Some};
-ghost use Rattle.rules.specs.Refusals.{refusal_number, refused_words, sheet_refusal};
+ghost use Rattle.rules.specs.Refusals.{question_refusal, refusal_number, refused_words, sheet_refusal};
 
+use engine::unfit::Unfit;
 use std::error::Error;
 use std::fmt;
 use theme::refusal::WriteRefusal;
@@ -92,6 +93,20 @@ impl From<WriteRefusal> for Refusal {
         match refusal {
             WriteRefusal::NoTheme => Refusal::NoTheme,
             WriteRefusal::OutputTooShort => Refusal::OutputTooShort,
+        }
+    }
+}
+
+/// What the engine has no answer for, as a refusal of the question that is asked of a sheet.
+impl From<Unfit> for Refusal {
+    ghost from_gives = { λ theirs ours. ours ≡ question_refusal theirs };
+
+    fn from(unfit: Unfit) -> Refusal {
+        match unfit {
+            Unfit::Places => Refusal::NoTheme,
+            Unfit::Memory => Refusal::MemoryTooShort,
+            Unfit::Line => Refusal::LineUnfit,
+            Unfit::Number => Refusal::NumberTooLarge,
         }
     }
 }
