@@ -77,7 +77,5 @@ pub(crate) fn of_line<M>(
     if let Err(refusal) = outcome {
         return Ok(Answer::Refused(refusal));
     }
-    let mut cells = Vec::new(heap);
-    cells.extend_from_slice(line)?;
-    Ok(Answer::Line(cells))
+    Ok(Answer::Line(line.to_vec(heap)?))
 }
