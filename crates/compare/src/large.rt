@@ -8,6 +8,7 @@ use measure::number::Number;
 use question::finding::pick;
 use question::weighing::count;
 use rules::refusal::Refusal;
+use rules::setting::Setting;
 use sheet::draft::{Closed, Draft};
 use standing::asking::Asking;
 use std::alloc::{AllocError, Global};
@@ -44,7 +45,7 @@ pub struct Large {
 pub fn fill_list(sheet: Closed) -> Result<(), Refusal> {
     let mut draft = sheet.reopen();
     for jv in 1..9 {
-        draft.add(jv, 0)?;
+        draft.add(Setting { jv, entry: 0 })?;
     }
     Ok(())
 }

@@ -5,6 +5,7 @@ use anyhow::Context;
 use counterpoint::moments::Voice;
 use rules::combination::Combination;
 use rules::refusal::Refusal;
+use rules::setting::Setting;
 use rules::trial::Trial;
 use sheet::draft::{Closed, Draft};
 use standing::compass::Compass;
@@ -30,7 +31,10 @@ pub fn page(heap: Global, bar: u8, places: &[Place]) -> Result<String, AllocErro
 fn add_all(draft: &mut Draft, combinations: &[Combination]) -> Result<(), Refusal> {
     for combination in combinations.iter().skip(1) {
         let entry = i32::try_from(combination.entry).map_err(|_| Refusal::EntryOutOfRange)?;
-        draft.add(combination.jv, entry)?;
+        draft.add(Setting {
+            jv: combination.jv,
+            entry,
+        })?;
     }
     Ok(())
 }
@@ -50,9 +54,10 @@ fn fix_all(draft: &mut Draft, places: &[Place]) -> Result<(), Refusal> {
 // Lists and fixes what a case has, on a draft that has its theme. Meanwhile a combination stands before the
 // others that no case lists.
 fn change_all(draft: &mut Draft, case: &Case) -> Result<(), Refusal> {
-    draft.add(23, 0)?;
+    let detour = Setting { jv: 23, entry: 0 };
+    draft.add(detour)?;
     add_all(draft, &case.combinations)?;
-    draft.drop(23, 0)?;
+    draft.drop(detour)?;
     fix_all(draft, &case.places)
 }
 

@@ -8,6 +8,7 @@ use measure::movement::Movement;
 use paper::combination::write_combination;
 use question::finding::least;
 use rules::refusal::Refusal;
+use rules::setting::Setting;
 use sheet::draft::{Closed, Draft};
 use standing::asking::Asking;
 use standing::compass::Compass;
@@ -80,7 +81,7 @@ fn write_both(heap: Global, sheet: &Closed) -> Result<Vec<u8>, Halt> {
 fn compose(heap: Global, page: &[u8]) -> Result<Vec<u8>, Halt> {
     let mut draft = Draft::blank(heap)?;
     draft.load(page)?;
-    draft.add(-7, 0)?;
+    draft.add(Setting { jv: -7, entry: 0 })?;
     write_both(heap, &draft.close())
 }
 

@@ -1,3 +1,4 @@
 pub mod Barred
 pub mod Fronts
 pub mod Runs
+pub mod Telling

@@ -8,6 +8,7 @@ use std::alloc::{AllocError, Global};
 use theme::refusal::PageRefusal;
 
 /// What a call answers, with a measure's values for weights.
+// No Result: a refused call is one outcome among others and ends no course, so `?` is left to what does, the memory.
 #[derive(Drop)]
 pub enum Answer<M> {
     /// The sheet is not in the state for this call, or there is no such book or compass.
@@ -77,7 +78,5 @@ pub(crate) fn of_line<M>(
     if let Err(refusal) = outcome {
         return Ok(Answer::Refused(refusal));
     }
-    let mut cells = Vec::new(heap);
-    cells.extend_from_slice(line)?;
-    Ok(Answer::Line(cells))
+    Ok(Answer::Line(line.to_vec(heap)?))
 }

@@ -1,15 +1,9 @@
 // Calls as data. Knows nothing of how they are answered.
-
-/// The combination that two numbers name, in range or not.
-#[derive(Clone, Copy)]
-pub struct Setting {
-    pub jv: i32,
-    pub entry: i32,
-}
+use rules::setting::Setting;
 
 /// What every question is handed: the numbers of its book and its compass among those there are, and how
 /// many working values.
-#[derive(Clone, Copy)]
+#[derive(Clone, Copy, PartialEq, Eq, Debug)]
 pub struct Query {
     pub book: usize,
     pub compass: usize,
@@ -17,7 +11,7 @@ pub struct Query {
 }
 
 /// A question. `cells` is the length of the line buffer that it is lent.
-#[derive(Clone, Copy)]
+#[derive(Clone, Copy, PartialEq, Eq, Debug)]
 pub enum Question<'a> {
     Decide { cells: usize },
     Count,
@@ -28,7 +22,7 @@ pub enum Question<'a> {
 }
 
 /// A call with all that it is handed.
-#[derive(Clone, Copy)]
+#[derive(Clone, Copy, PartialEq, Eq, Debug)]
 pub enum Call<'a> {
     Load {
         page: &'a [u8],

@@ -1,6 +1,6 @@
 // The working values that questions are lent. Knows nothing of calls.
-// The line buffer goes beside them: with a field of bytes among them, nothing would be known of the length of a
-// field after a part of it was lent.
+// The line buffer goes beside them: tried as a fifth field, and the check no longer found that any of the fields
+// keeps its length while a part of it is lent.
 use measure::movement::Movement;
 use measure::number::Number;
 use measure::possible::Possible;

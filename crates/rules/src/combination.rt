@@ -1,7 +1,6 @@
-// Combinations: the settings in which line and theme are played together.
-// Knows nothing of sheets.
+// Combinations: the lawful ways to play line and theme together. Knows nothing of sheets.
 
-/// A setting: the line raised by `jv` keys, and begun at the theme's place `entry`.
+/// The line raised by `jv` keys, and begun at the theme's place `entry`.
 #[derive(Clone, Copy, PartialEq, Eq, Hash, Debug)]
 pub struct Combination {
     pub jv: i32,

@@ -4,7 +4,7 @@ use Rattle.std.specs.List.{position, position_or_len, remove}
 use Rattle.std.proofs.lemmas.Bool.{ltb-true}
 use Rattle.std.proofs.lemmas.Bool.Decides.{nat_tests}
 use Rattle.rules.specs.declared.combination.Combination.{Combination}
-use Rattle.rules.specs.Plain.{same, listed, without}
+use Rattle.rules.specs.Plain.{Plain, same, listed, without}
 
 -- how many combinations stand before a wanted one, or in the whole list where it is not listed
 abbrev before_it : Combination → List Combination → ℕ
@@ -53,13 +53,17 @@ found_there wanted list i found = go (ltb (before_it wanted list) (length list))
         (omega (arith, at, below), ap (remove list) (sym at) ∙ removed_there wanted list below)
     go false is found = let z : ◌≡◌ {A = ℕ} 0 1 = cc in absurd (omega arith)
 
--- what a search for a combination tells of the list that it is sought in
-pub found_listed : {list seen : List Combination} {wanted one : Combination} {o : Option ℕ} → seen ≡ list → one ≡ wanted → o ≡ position (λ x. same x one) seen → listed wanted list ≡ is_some o
-found_listed {list} {seen} {wanted} {one} same-list same-one found =
-    sym (λ i. listed (same-one i) (same-list i)) ∙ sym (listed_position one seen) ∙ sym (ap (λ (p : Option ℕ). is_some p) found)
+-- what a search of the list in memory for the combination in memory tells of those of the plain sheet
+module _ {held sheet : Plain} {seen : List Combination} {wanted one : Combination} {o : Option ℕ} (in-memory : seen ≡ held.list) (same-sheet : held ≡ sheet) (same-one : one ≡ wanted) (found : o ≡ position (λ x. same x one) seen) where
+  same-list : seen ≡ sheet.list
+  same-list = in-memory ∙ ap (λ (p : Plain). p.list) same-sheet
 
--- and where it is found
-pub found_below : {list seen : List Combination} {wanted one : Combination} {o : Option ℕ} {i : ℕ} → seen ≡ list → one ≡ wanted → o ≡ position (λ x. same x one) seen → o ≡ Some i → (i < length list) × (remove list i ≡ without wanted list)
-found_below {list} {seen} {wanted} {one} {o} {i} same-list same-one found is =
-    let there : position (λ x. same x wanted) list ≡ Some i = sym (λ j. position (λ x. same x (same-one j)) (same-list j)) ∙ sym found ∙ is in
-    found_there wanted list i there
+  pub found_listed : listed wanted sheet.list ≡ is_some o
+  found_listed =
+      sym (λ i. listed (same-one i) (same-list i)) ∙ sym (listed_position one seen) ∙ sym (ap (λ (p : Option ℕ). is_some p) found)
+
+  -- and where it is found
+  pub found_below : {i : ℕ} → o ≡ Some i → (i < length sheet.list) × (remove sheet.list i ≡ without wanted sheet.list)
+  found_below {i} is =
+      let there : position (λ x. same x wanted) sheet.list ≡ Some i = sym (λ j. position (λ x. same x (same-one j)) (same-list j)) ∙ sym found ∙ is in
+      found_there wanted sheet.list i there

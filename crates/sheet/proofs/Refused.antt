@@ -2,12 +2,12 @@
 use Rattle.std.proofs.Common.{◌≡◌, ℕ, Bool, true, false, cond, not, ◌&&◌, ltb, leb, List, [], ◌∷◌, ◌++◌, length, ℤ, pos, negsuc, nat_abs, Some, None, Ok, Err, Option, Result, sym, refl, ap, ◌∙◌, arith}
 use Rattle.std.proofs.lemmas.Bool.{and_from, and_parts}
 use Rattle.theme.specs.Refusals.{first_no, answer}
-use Rattle.theme.proofs.Asked.{all_yes, first_no-++, first_no_next, first_no_stops, or_next_none}
+use Rattle.theme.proofs.Asked.{all_yes, first_no-++, first_no_next, or_next_none}
 use Rattle.rules.specs.declared.combination.Combination.{Combination}
 use Rattle.rules.specs.declared.refusal.Refusal.{Refusal}
-use Rattle.rules.specs.declared.refusal.Refusal.TheVariants.{AlreadyListed, ListFull, NotListed, KeyOutOfRange}
+use Rattle.rules.specs.declared.refusal.Refusal.TheVariants.{AlreadyListed, ListFull, NotListed}
 use Rattle.counterpoint.specs.Interval.{shift_in_range}
-use Rattle.rules.specs.Plain.{Plain, unless, places_of, original, same, listed, without, names_place, combination_of, combination_questions, add_questions, drop_questions, free_questions, fix_questions, all_in_range}
+use Rattle.rules.specs.Plain.{Plain, unless, places_of, original, same, listed, without, names_place, combination_of, combination_questions, add_questions, drop_questions, all_in_range}
 
 module _ {R X : Type 0} (o : Option R) (after before : X) where
   pub refused_answers : (e : R) → o ≡ Some e → ◌≡◌ {A = Result (Unit {0}) R} (Err e) (answer tt o)
@@ -43,12 +43,6 @@ module _ (p : Plain) (jv entry : ℤ) where
   abbrev drop_more : List (Bool × Refusal)
   drop_more = (listed (combination_of jv entry) p.list && not (same (combination_of jv entry) original), NotListed) ∷ []
 
-  pub add_stops : (e : Refusal) → first_no shared ≡ Some e → first_no (add_questions p jv entry) ≡ Some e
-  add_stops e is = first_no_stops shared add_more e is
-
-  pub drop_stops : (e : Refusal) → first_no shared ≡ Some e → first_no (drop_questions p jv entry) ≡ Some e
-  drop_stops e is = first_no_stops shared drop_more e is
-
   pub add_listed : first_no shared ≡ None → listed (combination_of jv entry) p.list ≡ true → first_no (add_questions p jv entry) ≡ Some AlreadyListed
   add_listed none is = first_no_next shared add_more none ∙ ap (λ (b : Bool). first_no ((not b, AlreadyListed) ∷ (ltb (length p.list) 8, ListFull) ∷ [])) is
 
@@ -64,16 +58,9 @@ module _ (p : Plain) (jv entry : ℤ) where
   drop_unlisted none is =
       first_no_next shared drop_more none ∙ (λ i. first_no ((is i && not (same (combination_of jv entry) original), NotListed) ∷ []))
 
-  pub drop_original : first_no shared ≡ None → listed (combination_of jv entry) p.list ≡ true → same (combination_of jv entry) original ≡ true → first_no (drop_questions p jv entry) ≡ Some NotListed
-  drop_original none is one =
-      first_no_next shared drop_more none ∙ (λ i. first_no ((is i && not (one i), NotListed) ∷ []))
-
   pub drop_accepted : first_no shared ≡ None → listed (combination_of jv entry) p.list ≡ true → same (combination_of jv entry) original ≡ false → first_no (drop_questions p jv entry) ≡ None
   drop_accepted none is other =
       first_no_next shared drop_more none ∙ (λ i. first_no ((is i && not (other i), NotListed) ∷ []))
-
-pub fix_stops : (p : Plain) (place key : ℕ) (e : Refusal) → first_no (free_questions p place) ≡ Some e → first_no (fix_questions p place key) ≡ Some e
-fix_stops p place key e is = first_no_stops (free_questions p place) ((leb key 23, KeyOutOfRange) ∷ []) e is
 
 -- a combination that was not refused is in range
 pub combination_in_range : (p : Plain) (jv entry : ℤ) → first_no (combination_questions p jv entry) ≡ None → (shift_in_range jv && ltb (nat_abs entry) (places_of p)) ≡ true

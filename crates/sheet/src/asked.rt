@@ -8,6 +8,7 @@ use super::draft::{Draft, MOST_COMBINATIONS};
 use counterpoint::interval::is_shift_in_range;
 use rules::combination::{Combination, ORIGINAL};
 use rules::refusal::Refusal;
+use rules::setting::Setting;
 
 // The number of a combination in a list, if it is listed.
 fn find(list: &[Combination], wanted: Combination) -> Option<usize>
@@ -17,28 +18,31 @@ fn find(list: &[Combination], wanted: Combination) -> Option<usize>
 }
 
 impl Draft {
-    // The combination that two numbers name, where a theme is loaded and they are in range.
-    fn combination(&self, jv: i32, entry: i32) -> Result<Combination, Refusal>
-        ensures { MatchResult result (λ c. (first_no (combination_questions self.now jv entry) ≡ None) × (c ≡ combination_of jv entry)) (λ e. first_no (combination_questions self.now jv entry) ≡ Some e) }
+    // The combination that a setting names, where a theme is loaded and it is in range.
+    fn combination(&self, setting: Setting) -> Result<Combination, Refusal>
+        ensures { MatchResult result (λ c. (first_no (combination_questions self.now setting.jv setting.entry) ≡ None) × (c ≡ combination_of setting.jv setting.entry)) (λ e. first_no (combination_questions self.now setting.jv setting.entry) ≡ Some e) }
     {
         if self.theme.is_empty() {
             return Err(Refusal::NoTheme);
         }
-        if !is_shift_in_range(jv) {
+        if !is_shift_in_range(setting.jv) {
             return Err(Refusal::ShiftOutOfRange);
         }
-        let place = entry.unsigned_abs() as usize;
-        if entry < 0 || place >= self.theme.len() {
+        let place = setting.entry.unsigned_abs() as usize;
+        if setting.entry < 0 || place >= self.theme.len() {
             return Err(Refusal::EntryOutOfRange);
         }
-        Ok(Combination { jv, entry: place })
+        Ok(Combination {
+            jv: setting.jv,
+            entry: place,
+        })
     }
 
-    // The combination that two numbers name, where it may be listed.
-    pub(crate) fn to_be_added(&self, jv: i32, entry: i32) -> Result<Combination, Refusal>
-        ensures { MatchResult result (λ c. (first_no (add_questions self.now jv entry) ≡ None) × (c ≡ combination_of jv entry) × (length self.now.list < 8)) (λ e. first_no (add_questions self.now jv entry) ≡ Some e) }
+    // The combination that a setting names, where it may be listed.
+    pub(crate) fn to_be_added(&self, setting: Setting) -> Result<Combination, Refusal>
+        ensures { MatchResult result (λ c. (first_no (add_questions self.now setting.jv setting.entry) ≡ None) × (c ≡ combination_of setting.jv setting.entry) × (length self.now.list < 8)) (λ e. first_no (add_questions self.now setting.jv setting.entry) ≡ Some e) }
     {
-        let combination = self.combination(jv, entry)?;
+        let combination = self.combination(setting)?;
         if find(&self.list, combination).is_some() {
             return Err(Refusal::AlreadyListed);
         }
@@ -48,18 +52,15 @@ impl Draft {
         Ok(combination)
     }
 
-    // The number in the list of the combination that two numbers name, where it may be dropped.
-    pub(crate) fn to_be_dropped(&self, jv: i32, entry: i32) -> Result<usize, Refusal>
-        ensures { MatchResult result (λ i. (first_no (drop_questions self.now jv entry) ≡ None) × (i < length self.now.list) × (remove self.now.list i ≡ without (combination_of jv entry) self.now.list)) (λ e. first_no (drop_questions self.now jv entry) ≡ Some e) }
+    // The number in the list of the combination that a setting names, where it may be dropped.
+    pub(crate) fn to_be_dropped(&self, setting: Setting) -> Result<usize, Refusal>
+        ensures { MatchResult result (λ i. (first_no (drop_questions self.now setting.jv setting.entry) ≡ None) × (i < length self.now.list) × (remove self.now.list i ≡ without (combination_of setting.jv setting.entry) self.now.list)) (λ e. first_no (drop_questions self.now setting.jv setting.entry) ≡ Some e) }
     {
-        let combination = self.combination(jv, entry)?;
-        let Some(number) = find(&self.list, combination) else {
-            return Err(Refusal::NotListed);
-        };
-        if combination == ORIGINAL {
-            return Err(Refusal::NotListed);
+        let combination = self.combination(setting)?;
+        match find(&self.list, combination) {
+            Some(number) if combination != ORIGINAL => Ok(number),
+            _ => Err(Refusal::NotListed),
         }
-        Ok(number)
     }
 
     // Sees that a theme is loaded and has this place.

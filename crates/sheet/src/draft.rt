@@ -9,6 +9,7 @@ ghost use Rattle.rules.specs.Faults.{Done, Kept, told_page, told_done, unweighed
 
 use rules::combination::{Combination, ORIGINAL};
 use rules::refusal::Refusal;
+use rules::setting::Setting;
 use std::alloc::{AllocError, Global};
 use std::marker::Model;
 use theme::place::HIGHEST_KEY;
@@ -84,24 +85,24 @@ impl Draft {
     }
 
     /// Lists one combination more.
-    pub fn add(&mut self, jv: i32, entry: i32) -> Result<(), Refusal>
-        ensures answer { result ≡ answer tt (first_no (add_questions self.old jv entry)) }
-        ensures held { self.new ≡ unless (first_no (add_questions self.old jv entry)) (added self.old jv entry) self.old }
-        ensures course { Kept unweighed (draft_at self.old) (Add jv entry) (told_done result) (draft_at self.new) }
+    pub fn add(&mut self, setting: Setting) -> Result<(), Refusal>
+        ensures answer { result ≡ answer tt (first_no (add_questions self.old setting.jv setting.entry)) }
+        ensures held { self.new ≡ unless (first_no (add_questions self.old setting.jv setting.entry)) (added self.old setting.jv setting.entry) self.old }
+        ensures course { Kept unweighed (draft_at self.old) (Add setting.jv setting.entry) (told_done result) (draft_at self.new) }
     {
-        let combination = self.to_be_added(jv, entry)?;
+        let combination = self.to_be_added(setting)?;
         self.list.push_reserved(combination);
         Ok(())
     }
 
     /// Takes a combination off the list; the original stays.
-    pub fn drop(&mut self, jv: i32, entry: i32) -> Result<(), Refusal>
-        ensures answer { result ≡ answer tt (first_no (drop_questions self.old jv entry)) }
-        ensures held { self.new ≡ unless (first_no (drop_questions self.old jv entry)) (dropped self.old jv entry) self.old }
-        ensures course { Kept unweighed (draft_at self.old) (Drop jv entry) (told_done result) (draft_at self.new) }
+    pub fn drop(&mut self, setting: Setting) -> Result<(), Refusal>
+        ensures answer { result ≡ answer tt (first_no (drop_questions self.old setting.jv setting.entry)) }
+        ensures held { self.new ≡ unless (first_no (drop_questions self.old setting.jv setting.entry)) (dropped self.old setting.jv setting.entry) self.old }
+        ensures course { Kept unweighed (draft_at self.old) (Drop setting.jv setting.entry) (told_done result) (draft_at self.new) }
     {
-        let number = self.to_be_dropped(jv, entry)?;
-        let _ = self.list.remove(number);
+        let number = self.to_be_dropped(setting)?;
+        self.list.remove(number);
         Ok(())
     }
 

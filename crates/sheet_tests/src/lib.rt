@@ -6,6 +6,7 @@ mod tests {
     use paper::combination::write_combination;
     use paper::page::write_page;
     use rules::refusal::Refusal;
+    use rules::setting::Setting;
     use sheet::draft::{Closed, Draft};
     use std::alloc::{AllocError, Global};
     use std::test::Fail;
@@ -19,6 +20,11 @@ mod tests {
         let mut draft = Draft::blank(heap)?;
         let _ = draft.load(TWO);
         Ok(draft)
+    }
+
+    // A setting, by its two numbers.
+    fn at(jv: i32, entry: i32) -> Setting {
+        Setting { jv, entry }
     }
 
     // The number of a refusal, if there is one.
@@ -48,8 +54,8 @@ mod tests {
     #[test]
     fn a_blank_sheet_has_no_theme(rt: HostRuntime) -> Result<(), Fail> {
         let mut draft = Draft::blank(rt.alloc())?;
-        assert_eq!(rt; number(draft.add(24, -1)), Some(12));
-        assert_eq!(rt; number(draft.drop(24, -1)), Some(12));
+        assert_eq!(rt; number(draft.add(at(24, -1))), Some(12));
+        assert_eq!(rt; number(draft.drop(at(24, -1))), Some(12));
         assert_eq!(rt; number(draft.fix(64, 24)), Some(12));
         assert_eq!(rt; number(draft.free(64)), Some(12));
         let sheet = draft.close();
@@ -66,47 +72,47 @@ mod tests {
     #[test]
     fn combinations_out_of_range(rt: HostRuntime) -> Result<(), Fail> {
         let mut draft = two_places(rt.alloc())?;
-        assert_eq!(rt; number(draft.add(-24, -1)), Some(13));
-        assert_eq!(rt; number(draft.add(24, 0)), Some(13));
-        assert_eq!(rt; number(draft.add(-23, -1)), Some(14));
-        assert_eq!(rt; number(draft.add(23, 2)), Some(14));
-        assert_eq!(rt; number(draft.drop(24, 0)), Some(13));
-        assert_eq!(rt; number(draft.drop(0, 2)), Some(14));
-        assert_eq!(rt; number(draft.add(-23, 1)), None);
-        assert_eq!(rt; number(draft.add(23, 0)), None);
+        assert_eq!(rt; number(draft.add(at(-24, -1))), Some(13));
+        assert_eq!(rt; number(draft.add(at(24, 0))), Some(13));
+        assert_eq!(rt; number(draft.add(at(-23, -1))), Some(14));
+        assert_eq!(rt; number(draft.add(at(23, 2))), Some(14));
+        assert_eq!(rt; number(draft.drop(at(24, 0))), Some(13));
+        assert_eq!(rt; number(draft.drop(at(0, 2))), Some(14));
+        assert_eq!(rt; number(draft.add(at(-23, 1))), None);
+        assert_eq!(rt; number(draft.add(at(23, 0))), None);
         Ok(())
     }
 
     #[test]
     fn a_ninth_combination(rt: HostRuntime) -> Result<(), Fail> {
         let mut draft = two_places(rt.alloc())?;
-        assert_eq!(rt; number(draft.add(0, 0)), Some(15));
+        assert_eq!(rt; number(draft.add(at(0, 0))), Some(15));
         for jv in 1..8i32 {
-            assert_eq!(rt; number(draft.add(jv, 1)), None);
+            assert_eq!(rt; number(draft.add(at(jv, 1))), None);
         }
-        assert_eq!(rt; number(draft.add(8, 1)), Some(16));
-        assert_eq!(rt; number(draft.add(7, 1)), Some(15));
-        assert_eq!(rt; number(draft.drop(8, 1)), Some(17));
-        assert_eq!(rt; number(draft.drop(0, 0)), Some(17));
-        assert_eq!(rt; number(draft.drop(7, 1)), None);
-        assert_eq!(rt; number(draft.add(8, 1)), None);
+        assert_eq!(rt; number(draft.add(at(8, 1))), Some(16));
+        assert_eq!(rt; number(draft.add(at(7, 1))), Some(15));
+        assert_eq!(rt; number(draft.drop(at(8, 1))), Some(17));
+        assert_eq!(rt; number(draft.drop(at(0, 0))), Some(17));
+        assert_eq!(rt; number(draft.drop(at(7, 1))), None);
+        assert_eq!(rt; number(draft.add(at(8, 1))), None);
         Ok(())
     }
 
     #[test]
     fn a_dropped_combination_closes_the_gap(rt: HostRuntime) -> Result<(), Fail> {
         let mut draft = two_places(rt.alloc())?;
-        assert_eq!(rt; number(draft.add(-7, 0)), None);
-        assert_eq!(rt; number(draft.add(0, 1)), None);
-        assert_eq!(rt; number(draft.add(2, 1)), None);
-        assert_eq!(rt; number(draft.drop(0, 1)), None);
+        assert_eq!(rt; number(draft.add(at(-7, 0))), None);
+        assert_eq!(rt; number(draft.add(at(0, 1))), None);
+        assert_eq!(rt; number(draft.add(at(2, 1))), None);
+        assert_eq!(rt; number(draft.drop(at(0, 1))), None);
         let sheet = draft.close();
         assert_eq!(rt; sheet.combinations().len(), 3);
         assert_eq!(rt; listed(&sheet, 0), Some((0, 0)));
         assert_eq!(rt; listed(&sheet, 1), Some((-7, 0)));
         assert_eq!(rt; listed(&sheet, 2), Some((2, 1)));
         let mut again = sheet.reopen();
-        assert_eq!(rt; number(again.add(0, 1)), None);
+        assert_eq!(rt; number(again.add(at(0, 1))), None);
         assert_eq!(rt; listed(&again.close(), 3), Some((0, 1)));
         Ok(())
     }
@@ -131,7 +137,7 @@ mod tests {
     #[test]
     fn a_page_replaces_all(rt: HostRuntime) -> Result<(), Fail> {
         let mut draft = two_places(rt.alloc())?;
-        assert_eq!(rt; number(draft.add(-7, 0)), None);
+        assert_eq!(rt; number(draft.add(at(-7, 0))), None);
         assert_eq!(rt; number(draft.fix(0, 5)), None);
         assert!(rt; draft.load(&TWO[0..30]).is_err());
         assert!(rt; draft.load(THREE).is_ok());
@@ -159,8 +165,8 @@ mod tests {
     #[test]
     fn combinations_written(rt: HostRuntime) -> Result<(), Fail> {
         let mut draft = two_places(rt.alloc())?;
-        assert_eq!(rt; number(draft.add(-7, 0)), None);
-        assert_eq!(rt; number(draft.add(23, 1)), None);
+        assert_eq!(rt; number(draft.add(at(-7, 0))), None);
+        assert_eq!(rt; number(draft.add(at(23, 1))), None);
         let sheet = draft.close();
         let mut out = [b'.'; 49];
         assert_eq!(rt;

@@ -20,8 +20,8 @@ returns g c hand s =
     let barred : Call → Bool = λ call. lets false (as_call hand s call) in
     elim c.match-call.branch [
       | in-Load w ↦ kept_is R here (ap (as_call hand s) w.in-Load.is) (ap told w.answer-is ∙ w.into-answer.ensures) (ap draft_at w.draft-is) (load_kept R _ _ _ _ w.load.ensures.answer w.load.ensures.held)
-      | in-Add w ↦ kept_is R here (ap (as_call hand s) w.in-Add.is) (ap told w.answer-is ∙ w.add_to-answer.ensures.answer) (ap draft_at w.draft-is) (add_kept R sheet _ _ _ _ refl w.add_to-answer.ensures.held)
-      | in-Drop w ↦ kept_is R here (ap (as_call hand s) w.in-Drop.is) (ap told w.answer-is ∙ w.drop_from-answer.ensures.answer) (ap draft_at w.draft-is) (drop_kept R sheet _ _ _ _ refl w.drop_from-answer.ensures.held)
+      | in-Add w ↦ kept_is R here (ap (as_call hand s) w.in-Add.is) (ap told w.answer-is ∙ w.into-answer-in-Add.ensures) (ap draft_at w.draft-is) (add_kept R sheet _ _ _ _ w.add.ensures.answer w.add.ensures.held)
+      | in-Drop w ↦ kept_is R here (ap (as_call hand s) w.in-Drop.is) (ap told w.answer-is ∙ w.into-answer-in-Drop.ensures) (ap draft_at w.draft-is) (drop_kept R sheet _ _ _ _ w.drop.ensures.answer w.drop.ensures.held)
       | in-Fix w ↦ kept_is R here (ap (as_call hand s) w.in-Fix.is) (ap told w.answer-is ∙ w.into-answer-in-Fix.ensures) (ap draft_at w.draft-is) (fix_kept R _ _ _ _ _ w.fix.ensures.answer w.fix.ensures.held)
       | in-Free w ↦ kept_is R here (ap (as_call hand s) w.in-Free.is) (ap told w.answer-is ∙ w.into-answer-in-Free.ensures) (ap draft_at w.draft-is) (free_kept R _ _ _ _ w.free.ensures.answer w.free.ensures.held)
       | in-Reopen w ↦

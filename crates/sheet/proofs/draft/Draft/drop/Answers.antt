@@ -1,22 +1,19 @@
-use Rattle.std.proofs.Common.{◌≡◌, ◌<◌, length, vec_items, None, Ok, sym, ◌∙◌, arith, rules}
+use Rattle.std.proofs.Common.{◌≡◌, vec_items, Ok, sym, ◌∙◌, arith, rules}
 use Rattle.std.specs.List.{remove}
-use Rattle.std.proofs.lemmas.Int.{to_z-of_z}
-use Rattle.theme.specs.Refusals.{first_no}
-use Rattle.rules.specs.Plain.{drop_questions, combination_of, without, all_in_range, places_of}
+use Rattle.rules.specs.Plain.{combination_of, without, all_in_range, places_of}
 use Rattle.rules.specs.Faults.{unweighed}
 use Rattle.rules.proofs.Faultless.{drop_kept}
 use Rattle.sheet.proofs.Refused.{in_range_without}
 use Rattle.sheet.proofs.draft.Draft.drop.Goals as goal
 
 pub returns-in_err-number-clause-course : goal.returns-in_err-number-clause-course
-returns-in_err-number-clause-course c = drop_kept unweighed c.args.self.now c.args.jv c.args.entry _ _ (search rules) (search rules)
+returns-in_err-number-clause-course c = drop_kept unweighed c.args.self.now _ _ _ _ (search rules) (search rules)
 
 pub invariant_of-self : goal.invariant_of-self
 invariant_of-self c =
     let sheet = c.args.self.now in
-    let named = combination_of c.args.jv c.args.entry in
-    let known : (first_no (drop_questions sheet c.args.jv c.args.entry) ≡ None) × (c.in_ok-number.number < length sheet.list) × (remove sheet.list c.in_ok-number.number ≡ without named sheet.list) =
-    simp (to_z-of_z, c.ranges.jv, c.ranges.entry) at c.in_ok-number.ensures in
+    let named = combination_of c.args.setting.jv c.args.setting.entry in
+    let known = c.in_ok-number.ensures in
     let p = c.remove.ensures in
     let same = c.self.view_is in
     let left : vec_items c.remove.new.self ≡ without named sheet.list =
@@ -33,4 +30,4 @@ invariant_of-self c =
     }
 
 pub returns-clause-course : goal.returns-clause-course
-returns-clause-course c = drop_kept unweighed c.args.self.now c.args.jv c.args.entry _ (Ok tt) (search rules) (search rules)
+returns-clause-course c = drop_kept unweighed c.args.self.now _ _ _ (Ok tt) (search rules) (search rules)
