@@ -49,7 +49,7 @@ impl<B: Book> Asked<'_, B> {
     }
 
     /// All strings in the compass that stand, in order.
-    pub fn check_strings(&self) -> anyhow::Result<Vec<Vec<u8>>> {
+    pub(crate) fn check_strings(&self) -> anyhow::Result<Vec<Vec<u8>>> {
         let mut lines = Vec::new(self.heap);
         for number in 0..strings(self.case) {
             let line = string(self.heap, self.case, number)?;
@@ -68,11 +68,6 @@ impl<B: Book> Asked<'_, B> {
         Ok(())
     }
 
-    // What weigh answers.
-    fn weighed<M: Measure>(&self, memory: &mut [M]) -> Result<M, Refusal> {
-        weigh(self.asking, memory)
-    }
-
     // Compares decide, and weigh over yes and no.
     fn compare_first(&self, lines: &[Vec<u8>]) -> anyhow::Result<()> {
         let mut memory = [Possible::NONE; ROOM];
@@ -80,7 +75,7 @@ impl<B: Book> Asked<'_, B> {
         let told = decide(self.asking, &mut memory, &mut line);
         let first = lines.first().ok_or(Refusal::NoLineStands);
         ensure!(agrees(told, &line, first), "decide disagrees");
-        let weighed = self.weighed(&mut memory).map(|weight| weight.found);
+        let weighed = weigh(self.asking, &mut memory).map(|weight| weight.found);
         ensure!(weighed == Ok(!lines.is_empty()), "weigh disagrees");
         Ok(())
     }
@@ -91,7 +86,7 @@ impl<B: Book> Asked<'_, B> {
         let number = u32::try_from(lines.len())?;
         let told = count(self.asking, &mut memory);
         ensure!(told == Ok(number), "count disagrees");
-        let weighed = self.weighed(&mut memory).map(|weight| weight.value);
+        let weighed = weigh(self.asking, &mut memory).map(|weight| weight.value);
         ensure!(weighed == Ok(number), "weigh disagrees");
         Ok(())
     }
@@ -106,7 +101,7 @@ impl<B: Book> Asked<'_, B> {
         let expected = best.ok_or(Refusal::NoLineStands);
         ensure!(agrees(told, &line, expected), "least disagrees");
         let sum = best.map_or(NO_LINE, |line| movement(line));
-        let weighed = self.weighed(&mut memory).map(|weight| weight.sum);
+        let weighed = weigh(self.asking, &mut memory).map(|weight| weight.sum);
         ensure!(weighed == Ok(sum), "weigh disagrees");
         Ok(())
     }
@@ -154,7 +149,7 @@ impl<B: Book> Asked<'_, B> {
     }
 
     /// Compares all questions with the lines that stand.
-    pub fn compare(&self, lines: &[Vec<u8>]) -> anyhow::Result<()> {
+    pub(crate) fn compare(&self, lines: &[Vec<u8>]) -> anyhow::Result<()> {
         self.compare_strays()?;
         self.compare_first(lines)?;
         self.compare_number(lines)?;

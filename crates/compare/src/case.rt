@@ -4,6 +4,7 @@ ghost use Rattle.std.specs.Prelude.{◌+◌, ◌-◌, ◌<◌, ◌≤◌, ◌≡
 
 use crate::restated::Rules;
 use counterpoint::moments::{Accent, Voice};
+use engine::verdicts::CELLS;
 use rules::combination::Combination;
 use rules::trial::Trial;
 
@@ -11,7 +12,7 @@ use rules::trial::Trial;
 pub const MOST: usize = 4;
 
 /// How many working values the questions need for so many places.
-pub const ROOM: usize = 48 * MOST;
+pub const ROOM: usize = CELLS * MOST;
 
 /// What there is at a place: a key of the theme, how it sounds, and the key fixed there, if any.
 #[derive(Clone, Copy)]
@@ -22,7 +23,7 @@ pub struct Place {
     pub fixed: Option<u8>,
 }
 
-/// The keys that a line may use.
+/// The keys that a line may use. The second engine has keys of its own, since it shares nothing with the first.
 #[derive(Clone, Copy)]
 pub struct Keys {
     pub lowest: u8,
@@ -33,12 +34,12 @@ pub struct Keys {
 
 impl Keys {
     /// Whether a key is one of them.
-    pub fn contains(self, key: u8) -> bool {
-        self.lowest <= key && key <= self.highest
+    pub(crate) fn contains(self, key: u8) -> bool {
+        (self.lowest..=self.highest).contains(&key)
     }
 
     /// How many there are.
-    pub fn count(self) -> u8
+    pub(crate) fn count(self) -> u8
         ensures { result ≡ self.highest - self.lowest + 1 }
     {
         self.highest - self.lowest + 1
@@ -62,7 +63,7 @@ pub struct Case {
 
 impl Case {
     /// What there is at a place, counted round the barrel.
-    pub fn place(&self, place: usize) -> Place {
+    pub(crate) fn place(&self, place: usize) -> Place {
         self.places[place % self.places.len()]
     }
 }

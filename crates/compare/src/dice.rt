@@ -9,7 +9,7 @@ pub struct Dice {
 
 impl Dice {
     /// A number below a bound, or 0 below 0.
-    pub fn below(&mut self, bound: u8) -> u8
+    pub(crate) fn below(&mut self, bound: u8) -> u8
         ensures within { result ≤ bound }
         ensures below { 0 < bound → result < bound }
     {
@@ -22,12 +22,12 @@ impl Dice {
     }
 
     /// Whether the one chance among so many comes.
-    pub fn chance(&mut self, among: u8) -> bool {
+    pub(crate) fn chance(&mut self, among: u8) -> bool {
         self.below(among) == 0
     }
 
     /// A shift of at most 22, often one by whole octaves.
-    pub fn shift(&mut self) -> i32 {
+    pub(crate) fn shift(&mut self) -> i32 {
         if self.chance(2) {
             i32::from(self.below(7)) * 7 - 21
         } else {

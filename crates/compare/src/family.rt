@@ -128,7 +128,7 @@ fn compare_next(heap: Global, dice: &mut Dice, family: Family) -> anyhow::Result
 }
 
 /// Compares every case of a family.
-pub fn compare_family(heap: Global, family: Family) -> anyhow::Result<Tally> {
+pub(crate) fn compare_family(heap: Global, family: Family) -> anyhow::Result<Tally> {
     // the kind of the books counts only here, so that each family has dice of its own
     let state = u32::from(family.size.places) * 3 + family.shelf as u32;
     let mut dice = Dice { state };

@@ -82,46 +82,51 @@ fn keeps(case: &Case, place: usize, key: u8) -> bool {
 
 // Sees that each key may stand at its place.
 fn check_kept(case: &Case, line: &[u8]) -> Result<(), Refusal> {
-    for (place, cell) in line.iter().enumerate() {
-        if !keeps(case, place, cell / 2) {
-            return Err(Refusal::NotKept { place });
-        }
+    let denied = line
+        .iter()
+        .enumerate()
+        .position(|(place, cell)| !keeps(case, place, cell / 2));
+    match denied {
+        Some(place) => Err(Refusal::NotKept { place }),
+        None => Ok(()),
     }
-    Ok(())
 }
 
 // Sees that the rules agree in each combination.
 fn check_agreed(case: &Case, line: &[u8]) -> Result<(), Refusal> {
-    for (number, combination) in case.combinations.iter().enumerate() {
-        let setting = Setting {
-            case,
-            combination: *combination,
-        };
-        if let Some(place) = setting.denied_place(line) {
-            return Err(Refusal::BookSaysNo {
-                combination: number,
-                place,
-            });
-        }
+    let denied = case
+        .combinations
+        .iter()
+        .enumerate()
+        .find_map(|(combination, setting)| {
+            let setting = Setting {
+                case,
+                combination: *setting,
+            };
+            let place = setting.denied_place(line)?;
+            Some(Refusal::BookSaysNo { combination, place })
+        });
+    match denied {
+        Some(refusal) => Err(refusal),
+        None => Ok(()),
     }
-    Ok(())
 }
 
 /// Sees whether a string of cells stands.
-pub fn judge(case: &Case, line: &[u8]) -> Result<(), Refusal> {
+pub(crate) fn judge(case: &Case, line: &[u8]) -> Result<(), Refusal> {
     check_cells(line)?;
     check_kept(case, line)?;
     check_agreed(case, line)
 }
 
 /// How many strings of cells there are in the compass.
-pub fn strings(case: &Case) -> u32 {
+pub(crate) fn strings(case: &Case) -> u32 {
     let cells = 2 * u32::from(case.keys.count());
     cells.pow(case.places.len() as u32)
 }
 
 /// The string of cells with a number, counted in order from 0.
-pub fn string(heap: Global, case: &Case, number: u32) -> Result<Vec<u8>, AllocError> {
+pub(crate) fn string(heap: Global, case: &Case, number: u32) -> Result<Vec<u8>, AllocError> {
     let cells = 2 * u32::from(case.keys.count());
     let lowest = 2 * case.keys.lowest;
     let mut line = vec![in heap; 0; case.places.len()]?;
@@ -134,7 +139,7 @@ pub fn string(heap: Global, case: &Case, number: u32) -> Result<Vec<u8>, AllocEr
 }
 
 /// The sum of step sizes of a line, round the barrel.
-pub fn movement(line: &[u8]) -> u32 {
+pub(crate) fn movement(line: &[u8]) -> u32 {
     let next = line.iter().cycle().skip(1);
     line.iter()
         .zip(next)
@@ -143,12 +148,12 @@ pub fn movement(line: &[u8]) -> u32 {
 }
 
 /// The first of the lines that move least.
-pub fn least_moved(lines: &[Vec<u8>]) -> Option<&Vec<u8>> {
+pub(crate) fn least_moved(lines: &[Vec<u8>]) -> Option<&Vec<u8>> {
     lines.iter().min_by_key(|line| movement(line))
 }
 
 /// How many of the lines begin with a key.
-pub fn beginning(lines: &[Vec<u8>], key: u8) -> usize {
+pub(crate) fn beginning(lines: &[Vec<u8>], key: u8) -> usize {
     lines
         .iter()
         .filter(|line| line.first().is_some_and(|cell| cell / 2 == key))

@@ -3,6 +3,7 @@ use crate::case::Place;
 use crate::sheets::page;
 use books::free::Free;
 use counterpoint::moments::{Accent, Voice};
+use engine::verdicts::CELLS;
 use measure::algebra::Measure;
 use measure::number::Number;
 use question::finding::pick;
@@ -13,15 +14,13 @@ use sheet::draft::{Closed, Draft};
 use standing::asking::Asking;
 use std::alloc::{AllocError, Global};
 use theme::refusal::PageRefusal;
+use theme::theme::MOST_PLACES;
 
-/// How many working values 64 places need.
-const ROOM: usize = 48 * PLACES;
+/// How many working values the most places need.
+const ROOM: usize = CELLS * MOST_PLACES;
 
-/// The most places of a theme.
-const PLACES: usize = 64;
-
-/// One place more.
-const BEYOND: usize = PLACES + 1;
+/// One place more than a theme can have.
+const BEYOND: usize = MOST_PLACES + 1;
 
 /// A key repeated at each place.
 const PLACE: Place = Place {
@@ -42,7 +41,7 @@ pub struct Large {
 }
 
 /// What is answered when a list is filled beyond its eight combinations.
-pub fn fill_list(sheet: Closed) -> Result<(), Refusal> {
+pub(crate) fn fill_list(sheet: Closed) -> Result<(), Refusal> {
     let mut draft = sheet.reopen();
     for jv in 1..9 {
         draft.add(Setting { jv, entry: 0 })?;
@@ -51,9 +50,9 @@ pub fn fill_list(sheet: Closed) -> Result<(), Refusal> {
 }
 
 /// A sheet with as many places as there can be.
-pub fn fill_sheet(heap: Global) -> Result<Large, AllocError> {
+pub(crate) fn fill_sheet(heap: Global) -> Result<Large, AllocError> {
     let mut draft = Draft::blank(heap)?;
-    let longest = draft.load(page(heap, 1, &[PLACE; PLACES])?.as_bytes());
+    let longest = draft.load(page(heap, 1, &[PLACE; MOST_PLACES])?.as_bytes());
     let longer = draft.load(page(heap, 1, &[PLACE; BEYOND])?.as_bytes());
     let sheet = draft.close();
     Ok(Large {
@@ -64,14 +63,14 @@ pub fn fill_sheet(heap: Global) -> Result<Large, AllocError> {
 }
 
 /// How many lines stand over the free book.
-pub fn count_free(asking: &Asking<'_, Free>) -> Result<u32, Refusal> {
+pub(crate) fn count_free(asking: &Asking<'_, Free>) -> Result<u32, Refusal> {
     let mut memory = [Number::NONE; ROOM];
     count(asking, &mut memory)
 }
 
 /// What is answered to a number too large.
-pub fn pick_free(asking: &Asking<'_, Free>) -> Result<(), Refusal> {
+pub(crate) fn pick_free(asking: &Asking<'_, Free>) -> Result<(), Refusal> {
     let mut memory = [Number::NONE; ROOM];
-    let mut line = [0; PLACES];
+    let mut line = [0; MOST_PLACES];
     pick(asking, &mut memory, &mut line, 1_000_000_000)
 }

@@ -16,6 +16,7 @@ use family::{Family, Shelf, Size, compare_family};
 use large::{Large, count_free, fill_list, fill_sheet, pick_free};
 use standing::asking::Asking;
 use standing::compass::Compass;
+use theme::place::HIGHEST_KEY;
 
 /// The books of each size of cases.
 const SHELVES: [Shelf; 3] = [Shelf::Strict, Shelf::Free, Shelf::Layered];
@@ -44,9 +45,14 @@ const SIZES: [Size; 4] = [
     },
 ];
 
+// The number of a refusal, or 0 where there is none.
+fn refused<E: Into<u32> + Drop>(answer: Result<(), E>) -> u32 {
+    answer.err().map_or(0, E::into)
+}
+
 // Says what the calls answer at the ends of their ranges, each refusal by its number, 0 where there is none.
 fn run_large(rt: &HostRuntime) -> anyhow::Result<()> {
-    let compass = Compass::new(0, 23)?;
+    let compass = Compass::new(0, HIGHEST_KEY)?;
     let Large {
         sheet,
         longest,
@@ -57,11 +63,11 @@ fn run_large(rt: &HostRuntime) -> anyhow::Result<()> {
         book: &Free,
         compass: &compass,
     };
-    let number = pick_free(&asking).err().map_or(0, u32::from);
+    let number = refused(pick_free(&asking));
     let count = count_free(&asking)?;
-    let longest = longest.err().map_or(0, u32::from);
-    let longer = longer.err().map_or(0, u32::from);
-    let ninth = fill_list(sheet).err().map_or(0, u32::from);
+    let longest = refused(longest);
+    let longer = refused(longer);
+    let ninth = refused(fill_list(sheet));
     println!(rt; "refused: 64 places {longest}, 65 places {longer}, ninth combination {ninth}")?;
     println!(rt; "refused: number 1000000000 {number}")?;
     println!(rt; "64 places over the free book: {count} lines")?;

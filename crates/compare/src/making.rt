@@ -9,6 +9,7 @@ use counterpoint::moments::{Accent, Voice};
 use rules::combination::{Combination, ORIGINAL};
 use rules::trial::Trial;
 use std::alloc::{AllocError, Global};
+use theme::place::HIGHEST_KEY;
 
 /// How many stray strings there are in each case.
 const STRAYS: u32 = 40;
@@ -31,7 +32,7 @@ fn next_key(dice: &mut Dice, before: u8) -> u8 {
     before
         .saturating_add(dice.below(9))
         .saturating_sub(4)
-        .min(23)
+        .min(HIGHEST_KEY)
 }
 
 // The places of a theme: pins, and bridges behind some of them. No key is fixed yet.
@@ -47,7 +48,7 @@ fn make_places(heap: Global, dice: &mut Dice, count: u8, bar: u8) -> Result<Vec<
         } else {
             Voice::Struck
         };
-        if place > 0 && matches!(voice, Voice::Struck) {
+        if place > 0 && voice == Voice::Struck {
             key = next_key(dice, key);
         }
         let accent = if place.is_multiple_of(bar) {
@@ -163,7 +164,7 @@ fn make_strays(heap: Global, dice: &mut Dice, places: u8) -> Result<Vec<Vec<u8>>
 }
 
 /// A case of a family.
-pub fn make_case(heap: Global, dice: &mut Dice, family: Family) -> Result<Case, AllocError> {
+pub(crate) fn make_case(heap: Global, dice: &mut Dice, family: Family) -> Result<Case, AllocError> {
     let count = family.size.places;
     let bar = make_bar(dice, count);
     let mut places = make_places(heap, dice, count, bar)?;

@@ -129,7 +129,7 @@ impl Rules {
     }
 
     /// Whether a succession is allowed and its first moment admitted, under all layers.
-    pub fn agrees(self, succession: Succession) -> bool {
+    pub(crate) fn agrees(self, succession: Succession) -> bool {
         self.agrees_inside(succession, 0)
             && self
                 .outer

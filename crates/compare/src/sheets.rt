@@ -13,7 +13,7 @@ use std::alloc::{AllocError, Global};
 use std::fmt::Write;
 
 /// The page of a theme.
-pub fn page(heap: Global, bar: u8, places: &[Place]) -> Result<String, AllocError> {
+pub(crate) fn page(heap: Global, bar: u8, places: &[Place]) -> Result<String, AllocError> {
     let count = places.len();
     let mut text = format!(in heap; "{count:>4}{bar:>4}\n")?;
     for (number, place) in places.iter().enumerate() {
@@ -62,7 +62,7 @@ fn change_all(draft: &mut Draft, case: &Case) -> Result<(), Refusal> {
 }
 
 /// The closed sheet of a case.
-pub fn closed_sheet(heap: Global, case: &Case) -> anyhow::Result<Closed> {
+pub(crate) fn closed_sheet(heap: Global, case: &Case) -> anyhow::Result<Closed> {
     let text = page(heap, case.bar, &case.places)?;
     let mut draft = Draft::blank(heap)?;
     draft.load(text.as_bytes()).context("load is refused")?;
@@ -72,7 +72,7 @@ pub fn closed_sheet(heap: Global, case: &Case) -> anyhow::Result<Closed> {
 }
 
 /// The compass of a case, with its trial; one that is not possible leaves that in force.
-pub fn compass(case: &Case) -> Result<Compass, Refusal> {
+pub(crate) fn compass(case: &Case) -> Result<Compass, Refusal> {
     let mut compass = Compass::new(case.keys.lowest, case.keys.highest)?;
     if let Some(trial) = case.trial {
         compass.inquire(trial)?;

@@ -2,13 +2,13 @@
 #![tactic(auto)]
 
 use std::io::{Read, Write};
-use theme::theme::Theme;
+use theme::theme::{MOST_PLACES, Theme};
 
-/// How much of the standard input is read.
+/// How much of the standard input is read, more than the longest page.
 const PAGE: u64 = 4096;
 
-/// A page of 64 places, the longest.
-const LONGEST: usize = 713;
+/// The longest page: a head of 9 bytes, and 11 for each place.
+const LONGEST: usize = 9 + 11 * MOST_PLACES;
 
 fn run(rt: &HostRuntime) -> anyhow::Result<()> {
     let mut page = Vec::new(rt.alloc());

@@ -3,6 +3,7 @@
 #![tactic(auto)]
 
 use books::strict::Strict;
+use engine::verdicts::CELLS;
 use measure::algebra::Measure;
 use measure::movement::Movement;
 use paper::combination::write_combination;
@@ -14,19 +15,18 @@ use standing::asking::Asking;
 use standing::compass::Compass;
 use std::alloc::{AllocError, Global};
 use std::io::{Read, Write};
+use theme::place::HIGHEST_KEY;
 use theme::refusal::PageRefusal;
+use theme::theme::MOST_PLACES;
 
-/// How much of the standard input is read.
+/// How much of the standard input is read, more than the longest page.
 const PAGE: u64 = 4096;
 
-/// The most places of a theme.
-const PLACES: usize = 64;
+/// The working values for the longest line.
+const ROOM: usize = CELLS * MOST_PLACES;
 
-/// The working values for so many places.
-const ROOM: usize = 48 * PLACES;
-
-/// Two combinations of a line of so many places.
-const LONGEST: usize = 2 * (13 + 17 * PLACES);
+/// Two of the longest combinations: each has a head of 13 bytes, and 17 for each place.
+const LONGEST: usize = 2 * (13 + 17 * MOST_PLACES);
 
 /// Why nothing is composed.
 #[derive(Clone, Copy, Debug)]
@@ -39,6 +39,7 @@ enum Halt {
     Memory(AllocError),
 }
 
+// No derive of `std` writes `From`; `thiserror` does, and the programs rest on `anyhow` alone.
 impl From<PageRefusal> for Halt {
     fn from(refusal: PageRefusal) -> Halt {
         Halt::Page(refusal)
@@ -60,8 +61,8 @@ impl From<AllocError> for Halt {
 // Both combinations of the least line of a sheet with two, one behind the other.
 fn write_both(heap: Global, sheet: &Closed) -> Result<Vec<u8>, Halt> {
     let mut memory = vec![in heap; Movement::NONE; ROOM]?;
-    let mut line = [0; PLACES];
-    let compass = Compass::new(0, 23)?;
+    let mut line = [0; MOST_PLACES];
+    let compass = Compass::new(0, HIGHEST_KEY)?;
     let asking = Asking {
         sheet,
         book: &Strict,
@@ -90,6 +91,7 @@ fn run(rt: &HostRuntime) -> anyhow::Result<()> {
     rt.stdin().take(PAGE).read_to_end(&mut page)?;
     match compose(rt.alloc(), &page) {
         Ok(combinations) => rt.stdout().write_all(&combinations)?,
+        // the two refusals are of two types, so that no pattern names both
         Err(Halt::Page(refusal)) => println!(rt; "refused{:>4}", u32::from(refusal))?,
         Err(Halt::Sheet(refusal)) => println!(rt; "refused{:>4}", u32::from(refusal))?,
         Err(Halt::Memory(error)) => return Err(error.into()),

@@ -11,7 +11,7 @@ use script::handing::{MOST_CELLS, MOST_ROOM};
 use std::alloc::{AllocError, Global};
 
 /// Makes the calls of a script in one course; its measure is the least sum of steps.
-pub fn play(heap: Global, script: &Script) -> Result<Played<Movement>, AllocError> {
+pub(crate) fn play(heap: Global, script: &Script) -> Result<Played<Movement>, AllocError> {
     let calls = script.calls(heap)?;
     let mut possible = vec![in heap; Possible::NONE; MOST_ROOM]?;
     let mut numbers = vec![in heap; Number::NONE; MOST_ROOM]?;

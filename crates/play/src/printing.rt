@@ -8,22 +8,26 @@ use script::gathering::{Row, Script, Writing};
 use script::shown::Shown;
 use std::io;
 use std::io::Write;
+use theme::theme::MOST_PLACES;
 
-/// A combination of 64 places, the longest.
-const LONGEST: usize = 1101;
+/// The longest combination: a head of 13 bytes, and 17 for each place.
+const LONGEST: usize = 13 + 17 * MOST_PLACES;
 
 // The last line that an answer gave.
 fn last_line(answers: &[Answer<Movement>]) -> &[u8] {
-    for answer in answers.iter().rev() {
-        if let Answer::Line(line) = answer {
-            return line;
-        }
-    }
-    &[]
+    answers
+        .iter()
+        .rev()
+        .find_map(|answer| match answer {
+            Answer::Line(line) => Some(line.as_slice()),
+            _ => None,
+        })
+        .unwrap_or_default()
 }
 
 // Prints each line that makes a call with its answer, and each that makes none with its refusal.
 fn print_rows(rt: &HostRuntime, rows: &[Row], answers: &[Answer<Movement>]) -> io::Result<()> {
+    // a row without a step takes no answer, so that a `zip` would pair the rows behind it with others'
     let mut next = answers.iter();
     for row in rows {
         let text = row.text.as_str();
@@ -61,7 +65,7 @@ fn print_writing(
 }
 
 /// Prints a played script.
-pub fn print_played(
+pub(crate) fn print_played(
     rt: &HostRuntime,
     script: &Script,
     played: &Played<Movement>,

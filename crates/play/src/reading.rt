@@ -12,7 +12,7 @@ use std::io::{BufRead, BufReader, Read};
 /// How much of the standard input is read, so that there are at most as many lines.
 const SCRIPT: u64 = 65_536;
 
-/// How much of a file is read.
+/// How much of a file is read, more than the longest page.
 const PAGE: u64 = 4096;
 
 /// The first line that is not taken, counted from 1, and why.
@@ -50,7 +50,7 @@ fn take_line(rt: &HostRuntime, script: &mut Script, text: String) -> Result<(), 
 }
 
 /// Reads the script, up to the first line that is not taken.
-pub fn read_script(rt: &HostRuntime, script: &mut Script) -> Result<(), Halt>
+pub(crate) fn read_script(rt: &HostRuntime, script: &mut Script) -> Result<(), Halt>
     ensures { IfErr result (λ halt. (0 < halt.number) × (halt.number ≤ 65536)) }
 {
     let input = BufReader::new(rt.alloc(), rt.stdin().take(SCRIPT)).map_err(|_| Halt {

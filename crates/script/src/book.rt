@@ -10,7 +10,7 @@ use counterpoint::book::Book;
 use counterpoint::moments::{Moment, Succession};
 
 /// The two books that have names.
-#[derive(Clone, Copy, PartialEq, Eq, Debug)]
+#[derive(Clone, Copy, PartialEq, Eq, Hash, Debug)]
 pub enum Rules {
     Strict,
     Free,

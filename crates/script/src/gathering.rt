@@ -1,5 +1,5 @@
 // A script as it is read, line by line: the calls that it makes, and what they are handed.
-ghost use Rattle.std.specs.Prelude.{◌≡◌, ◌+◌, min, IfOk, IfErr, Some, vec_len, OnOk, slice_index_or};
+ghost use Rattle.std.specs.Prelude.{◌≡◌, ◌++◌, [], ◌∷◌, min, IfOk, IfErr, Some, vec_len, vec_items, OnOk, slice_index_or};
 ghost use Rattle.std.specs.Option.{unwrap_or};
 ghost use Rattle.theme.specs.Refusals.{or_next};
 ghost use Rattle.rules.specs.Compasses.{PlainCompass};
@@ -33,6 +33,7 @@ pub struct Writing {
 /// A script: the books and compasses of its questions, its calls, and what is written after them.
 #[derive(Drop)]
 pub struct Script {
+    // a course takes books and compasses by numbers of their own, so they are two lists
     pub books: Vec<AnyBook>,
     pub compasses: Vec<Compass>,
     pub rows: Vec<Row>,
@@ -61,7 +62,8 @@ fn hand(book: BookName, options: Options) -> Result<Handed, Refusal>
 impl Script {
     /// A script without lines.
     pub fn empty(heap: Global) -> Script
-        ensures { (vec_len result.rows ≡ 0) × (vec_len result.writings ≡ 0) }
+        ensures handed { (vec_items result.books ≡ []) × (vec_items result.compasses ≡ []) }
+        ensures lines { (vec_items result.rows ≡ []) × (vec_items result.writings ≡ []) }
     {
         Script {
             books: Vec::new(heap),
@@ -72,6 +74,7 @@ impl Script {
     }
 
     /// The step of a question, whose book and compass are kept, or why there is none.
+    /// An outer error ends the reading; an inner one is what the row is answered.
     pub fn ask(&mut self, question: Question) -> Result<Result<Step, Refusal>, Fault>
         ensures book { IfOk result (λ asked. OnOk asked ((d : AnyBook) → (any_admits (slice_index_or self.new.books.items (vec_len self.old.books) d) ≡ named_admits question.book) × (any_allows (slice_index_or self.new.books.items (vec_len self.old.books) d) ≡ named_allows question.book))) }
         ensures compass { IfOk result (λ asked. OnOk asked ((d : PlainCompass) → slice_index_or self.new.compasses.items (vec_len self.old.compasses) d ≡ asked_compass question.options)) }
@@ -101,7 +104,8 @@ impl Script {
 
     /// Adds a line that makes a call; none comes after what is written.
     pub fn add_row(&mut self, text: String, step: Result<Step, Refusal>) -> Result<(), Fault>
-        ensures { OnOk result ((vec_len self.old.writings ≡ 0) × (vec_len self.new.rows ≡ vec_len self.old.rows + 1)) }
+        ensures first { OnOk result (vec_len self.old.writings ≡ 0) }
+        ensures row { OnOk result (vec_items self.new.rows ≡ vec_items self.old.rows ++ (record { text = text; step = step } ∷ [])) }
     {
         if !self.writings.is_empty() {
             return Err(Fault::NotACall);
@@ -112,7 +116,7 @@ impl Script {
 
     /// Adds a line that has a combination written.
     pub fn add_writing(&mut self, text: String, number: usize) -> Result<(), Fault>
-        ensures { OnOk result (vec_len self.new.writings ≡ vec_len self.old.writings + 1) }
+        ensures { OnOk result (vec_items self.new.writings ≡ vec_items self.old.writings ++ (record { text = text; number = number } ∷ [])) }
     {
         self.writings.push(Writing { text, number })?;
         Ok(())

@@ -7,19 +7,22 @@ ghost use Rattle.script.specs.Names.{named_admits, named_allows, book_no, asked_
 use super::book::AnyBook;
 use super::statement::{BookName, Keys, Options};
 use books::vertical::Vertical;
+use engine::verdicts::CELLS;
 use rules::refusal::Refusal;
 use standing::compass::Compass;
-
-/// As many working values as any question needs, 48 for each of 64 places.
-pub const MOST_ROOM: usize = 3072;
+use theme::place::HIGHEST_KEY;
+use theme::theme::MOST_PLACES;
 
 /// As many cells as the longest line has.
-pub const MOST_CELLS: usize = 64;
+pub const MOST_CELLS: usize = MOST_PLACES;
+
+/// As many working values as any question needs, one for each cell at each place.
+pub const MOST_ROOM: usize = CELLS * MOST_PLACES;
 
 /// The keys of a compass of which nothing is said.
 const ALL_KEYS: Keys = Keys {
     lowest: 0,
-    highest: 23,
+    highest: HIGHEST_KEY,
 };
 
 impl BookName {
@@ -30,10 +33,10 @@ impl BookName {
         let Some(shift) = self.shift else {
             return Ok(AnyBook::Bare(self.rules));
         };
-        match Vertical::new(self.rules, shift) {
-            Ok(layer) => Ok(AnyBook::Layered(layer)),
-            Err(_) => Err(Refusal::ShiftOutOfRange),
-        }
+        // a layer is refused for its shift alone
+        Vertical::new(self.rules, shift)
+            .map(AnyBook::Layered)
+            .map_err(|_| Refusal::ShiftOutOfRange)
     }
 }
 

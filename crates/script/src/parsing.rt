@@ -1,6 +1,8 @@
 // What the words of a line say. Knows nothing of what becomes of it.
-ghost use Rattle.std.specs.Prelude.{◌≡◌, ◌<◌, ◌≤◌, true, length, IfSome, IfOk, IfErr, vec_len, MatchResult, OnOk};
+ghost use Rattle.std.specs.Prelude.{◌≡◌, ◌≢◌, ◌<◌, ◌≤◌, true, length, slice_index, Ok, None, IfSome, IfOk, IfErr, vec_len, MatchResult, OnOk};
 ghost use Rattle.script.specs.declared.fault.Fault.TheVariants.{NotACall};
+ghost use Rattle.script.specs.declared.book.Rules.TheVariants.{Strict, Free};
+ghost use Rattle.script.specs.Spelling.{rules_word, Spells};
 ghost use Rattle.script.specs.Changes.{is_change, is_check, ChangesOnly};
 
 use super::book::Rules;
@@ -16,7 +18,7 @@ use std::str::FromStr;
 fn number<N: FromStr>(word: &str) -> Result<N, Fault>
 where
     N::Err: Drop,
-    ensures { IfErr result (λ fault. fault ≡ NotACall) }
+    ensures { MatchResult result (λ n. N.from_str_gives word.now (Ok n)) (λ fault. fault ≡ NotACall) }
 {
     word.parse().map_err(|_| Fault::NotACall)
 }
@@ -50,7 +52,7 @@ where
 impl FromStr for Rules {
     type Err = Fault;
 
-    ghost from_str_gives = { λ _ r. IfErr r (λ fault. fault ≡ NotACall) };
+    ghost from_str_gives = { λ text r. MatchResult r (λ rules. text ≡ rules_word rules) (λ fault. (fault ≡ NotACall) × (text ≢ rules_word Strict) × (text ≢ rules_word Free)) };
 
     fn from_str(word: &str) -> Result<Rules, Fault> {
         match word {
@@ -65,7 +67,7 @@ impl FromStr for Rules {
 impl FromStr for BookName {
     type Err = Fault;
 
-    ghost from_str_gives = { λ _ r. IfErr r (λ fault. fault ≡ NotACall) };
+    ghost from_str_gives = { λ text r. MatchResult r (λ name. Spells name text) (λ fault. fault ≡ NotACall) };
 
     fn from_str(word: &str) -> Result<BookName, Fault> {
         let (rules, shift) = match word.split_once('+') {
@@ -109,6 +111,7 @@ fn goes_on(words: &[&str]) -> bool {
 }
 
 // The options at the front of some words, with those that are read already, and the words behind them.
+// A loop that assigns the words anew is tried and not covered: what it lends differs where its turns join.
 fn options<'a, 'w>(
     mut read: Options,
     words: &'a [&'w str],
@@ -122,15 +125,23 @@ fn options<'a, 'w>(
     options(read, rest)
 }
 
-// A question about the book that the first word names, whose words end with the options.
-fn question(asks: Asks, words: &[&str]) -> Result<Question, Fault>
-    ensures { MatchResult result (λ asked. asked.asks ≡ asks) (λ fault. fault ≡ NotACall) }
+// The book that the first word names, the options behind it, and the words behind those.
+fn asked<'a, 'w>(words: &'a [&'w str]) -> Result<(BookName, Options, &'a [&'w str]), Fault>
+    ensures { IfErr result (λ fault. fault ≡ NotACall) }
 {
     let [book, words @ ..] = words else {
         return Err(Fault::NotACall);
     };
     let book = book.parse()?;
-    let (options, []) = options(Options::default(), words)? else {
+    let (options, words) = options(Options::default(), words)?;
+    Ok((book, options, words))
+}
+
+// A question about the book that the first word names, whose words end with the options.
+fn question(asks: Asks, words: &[&str]) -> Result<Question, Fault>
+    ensures { MatchResult result (λ asked. asked.asks ≡ asks) (λ fault. fault ≡ NotACall) }
+{
+    let (book, options, []) = asked(words)? else {
         return Err(Fault::NotACall);
     };
     Ok(Question {
@@ -168,11 +179,7 @@ fn cells(heap: Global, words: &[&str]) -> Result<Vec<u8>, Fault>
 fn check(heap: Global, words: &[&str]) -> Result<Question, Fault>
     ensures { IfOk result (λ asked. is_check asked.asks ≡ true) }
 {
-    let [book, words @ ..] = words else {
-        return Err(Fault::NotACall);
-    };
-    let book = book.parse()?;
-    let (options, ["line", line @ ..]) = options(Options::default(), words)? else {
+    let (book, options, ["line", line @ ..]) = asked(words)? else {
         return Err(Fault::NotACall);
     };
     Ok(Question {
@@ -184,23 +191,25 @@ fn check(heap: Global, words: &[&str]) -> Result<Question, Fault>
     })
 }
 
+// The shift and the entry of a combination.
+fn setting(words: &[&str]) -> Result<Setting, Fault>
+    ensures { IfErr result (λ fault. fault ≡ NotACall) }
+{
+    let (jv, entry) = two(words)?;
+    Ok(Setting { jv, entry })
+}
+
 // A change of the sheet, or its closing or reopening.
 fn change(verb: &str, words: &[&str]) -> Result<Call<'static>, Fault>
     ensures { MatchResult result (λ call. is_change call ≡ true) (λ fault. fault ≡ NotACall) }
 {
     match verb {
-        "add" => {
-            let (jv, entry) = two(words)?;
-            Ok(Call::Add {
-                setting: Setting { jv, entry },
-            })
-        }
-        "drop" => {
-            let (jv, entry) = two(words)?;
-            Ok(Call::Drop {
-                setting: Setting { jv, entry },
-            })
-        }
+        "add" => Ok(Call::Add {
+            setting: setting(words)?,
+        }),
+        "drop" => Ok(Call::Drop {
+            setting: setting(words)?,
+        }),
         "fix" => {
             let (place, key) = two(words)?;
             Ok(Call::Fix { place, key })
@@ -245,7 +254,8 @@ fn statement(heap: Global, verb: &str, words: &[&str]) -> Result<Statement, Faul
 
 /// What a line says; an empty line and one that begins with `#` say nothing.
 pub fn line_says(heap: Global, text: &str) -> Result<Option<Statement>, Fault>
-    ensures { IfOk result (λ said. IfSome said ChangesOnly) }
+    ensures change { IfOk result (λ said. IfSome said ChangesOnly) }
+    ensures remark { slice_index text.now 0 ≡ 35 → result ≡ Ok None }
 {
     if text.starts_with('#') {
         return Ok(None);

@@ -1,6 +1,6 @@
 // How answers are shown. Knows nothing of the calls that they answer.
 ghost use Rattle.std.specs.Prelude.{Some};
-ghost use Rattle.script.specs.Words.{weight_words};
+ghost use Rattle.script.specs.Words.{weight_words, line_words, answer_words};
 
 use course::answer::Answer;
 use measure::algebra::Measure;
@@ -31,6 +31,8 @@ impl fmt::Display for Weight {
 pub struct Cells<'a>(pub &'a [u8]);
 
 impl fmt::Display for Cells<'_> {
+    ghost output = { λ cells. Some (line_words cells.0.now) };
+
     fn fmt<W: fmt::Write>(&self, f: &mut fmt::Formatter<W>) -> fmt::Result {
         f.write_str("line")?;
         for cell in self.0 {
@@ -45,6 +47,8 @@ impl fmt::Display for Cells<'_> {
 pub struct Shown<'a>(pub &'a Answer<Movement>);
 
 impl fmt::Display for Shown<'_> {
+    ghost output = { λ shown. Some (answer_words shown.0.now) };
+
     fn fmt<W: fmt::Write>(&self, f: &mut fmt::Formatter<W>) -> fmt::Result {
         match self.0 {
             Answer::Away => f.write_str("not let through"),

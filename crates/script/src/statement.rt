@@ -4,21 +4,21 @@ use course::call::Call;
 use rules::trial::Trial;
 
 /// A book by its name, and the shift of the layer over it, if there is one.
-#[derive(Clone, Copy)]
+#[derive(Clone, Copy, PartialEq, Eq, Hash, Debug)]
 pub struct BookName {
     pub rules: Rules,
     pub shift: Option<i32>,
 }
 
 /// The lowest and the highest key of a compass.
-#[derive(Clone, Copy)]
+#[derive(Clone, Copy, PartialEq, Eq, Hash, Debug)]
 pub struct Keys {
     pub lowest: u8,
     pub highest: u8,
 }
 
 /// What a question says of its compass, its working values and its line buffer.
-#[derive(Clone, Copy, Default)]
+#[derive(Clone, Copy, PartialEq, Eq, Hash, Debug, Default)]
 pub struct Options {
     pub keys: Option<Keys>,
     pub trial: Option<Trial>,
