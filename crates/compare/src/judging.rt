@@ -94,18 +94,14 @@ fn check_kept(case: &Case, line: &[u8]) -> Result<(), Refusal> {
 
 // Sees that the rules agree in each combination.
 fn check_agreed(case: &Case, line: &[u8]) -> Result<(), Refusal> {
-    let denied = case
-        .combinations
-        .iter()
-        .enumerate()
-        .find_map(|(combination, setting)| {
-            let setting = Setting {
-                case,
-                combination: *setting,
-            };
-            let place = setting.denied_place(line)?;
-            Some(Refusal::BookSaysNo { combination, place })
-        });
+    let denied = case.combinations.iter().enumerate().find_map(|(combination, setting)| {
+        let setting = Setting {
+            case,
+            combination: *setting,
+        };
+        let place = setting.denied_place(line)?;
+        Some(Refusal::BookSaysNo { combination, place })
+    });
     match denied {
         Some(refusal) => Err(refusal),
         None => Ok(()),
