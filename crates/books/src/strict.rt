@@ -1,5 +1,5 @@
 // The strict book.
-// Knows nothing of the free one.
+// Knows nothing of the free one. Clauses take a motion apart, as the rules speak of intervals and of steps.
 ghost use Rattle.std.specs.Prelude.{◌≡◌};
 ghost use Rattle.counterpoint.specs.Moments.{one_held};
 ghost use Rattle.books.specs.Strict.{strict_admits, strict_allows, strict_rule, strict_rules, singable, no_hidden_perfect, no_repeated_perfect, no_two_dissonances, left_well, entered_well, moves_well, treats_dissonance};

@@ -12,7 +12,7 @@ mod tests {
     use counterpoint::refusal::Refusal;
     use std::test::Fail;
 
-    // Both voices struck on a weak place.
+    // Both voices struck on a weak place; the worked examples of the crate itself are on strong ones.
     fn struck(interval: i32) -> Moment {
         Moment {
             interval,

@@ -1,4 +1,5 @@
-// The questions that a closed sheet takes, each told as an answer.
+// The questions that a closed sheet takes, each told as an answer. Buffers go beside what is asked: a struct of both
+// would borrow the one to be read and the other to be written, and each call lends parts of the second.
 ghost use Rattle.std.specs.Prelude.{◌≡◌, min, length, take, IfOk};
 ghost use Rattle.rules.specs.Courses.{closed_at};
 ghost use Rattle.rules.specs.Faults.{Kept};

@@ -11,7 +11,7 @@ use crate::store::Store;
 use crate::verdicts::{CELLS, says};
 use measure::algebra::Measure;
 
-/// The step between two cells.
+/// The step between two cells: a cell's key is half of it. What else a key is the engine does not know.
 pub(crate) fn step_between<M: Measure>(cell: usize, next: usize) -> M
     requires { (cell < 48) × (next < 48) }
     ensures { result ≡ M.ring.step (leap cell next) }

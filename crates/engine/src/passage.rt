@@ -3,7 +3,8 @@
 ghost use Rattle.std.specs.Prelude.{◌≡◌};
 ghost use Rattle.engine.specs.Lines.{Way};
 
-/// Says at each place which cell may follow which, always the same.
+/// Says at each place which cell may follow which, always the same. Place and cells are three numbers and no struct,
+/// as a table of verdicts is read by one of them after the other.
 pub trait Passage {
     ghost way: { Self → Way };
 

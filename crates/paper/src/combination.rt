@@ -9,7 +9,7 @@ ghost use Rattle.paper.specs.Written.{theme_key, combination_head, combination_r
 use super::columns::signed_columns;
 use rules::combination::Combination;
 use rules::refusal::Refusal;
-use sheet::cells::wrong_cell;
+use sheet::cells::{key_of, wrong_cell};
 use sheet::draft::Closed;
 use theme::field::columns;
 use theme::theme::{MOST_PLACES, Theme};
@@ -34,12 +34,12 @@ fn head(number: usize, combination: Combination) -> [u8; HEAD]
     [a, b, c, d, e, f, g, h, i, j, k, l, b'\n']
 }
 
-// The theme's key at a place, counted round the barrel.
+// The theme's key at a place, counted round the barrel. `standing` counts so for itself, on what it knows is in range.
 fn theme_key(theme: &Theme, place: usize) -> u8
     requires { 0 < length theme.now.places }
     ensures { result ≡ theme_key theme.now.places place }
 {
-    theme.place(place % theme.len()).map_or(0, |met| met.key)
+    theme.place(place % theme.len()).unwrap().key
 }
 
 // A row, of a place, the line's key as it is raised and the theme's key.
@@ -60,7 +60,7 @@ fn met_row(theme: &Theme, combination: Combination, place: usize, cell: u8) -> [
     ensures { result ≡ met_row theme.now.places combination place cell }
 {
     let key = theme_key(theme, place + combination.entry);
-    row(place, i32::from(cell / 2) + combination.jv, key)
+    row(place, i32::from(key_of(cell)) + combination.jv, key)
 }
 
 // Puts the rows of a line's cells into a buffer, behind a head. By index, in a loop of its own, for

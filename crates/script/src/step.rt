@@ -5,7 +5,8 @@ ghost use Rattle.script.specs.Steps.{step_of, Makes};
 use super::statement::Asks;
 use course::call::{Call, Query, Question};
 
-/// A call of a script.
+/// A call of a script, which owns its bytes. `Call` borrows them, so that it can be copied: one generic enum for both
+/// would put an allocation or a lifetime where none belongs.
 #[derive(Drop)]
 pub enum Step {
     Load { page: Vec<u8> },

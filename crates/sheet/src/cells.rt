@@ -3,7 +3,7 @@
 ghost use Rattle.std.specs.Prelude.{◌≡◌};
 ghost use Rattle.rules.specs.Cells.{key_of, held_cell, cell_lawful, wrong_cell};
 
-/// The number of different cells: two for each of the 24 keys.
+/// The number of different cells: two for each of the 24 keys. The engine has it as a `usize`, which counts memory.
 pub const CELLS: u8 = 48;
 
 /// The key of a cell.
@@ -35,6 +35,7 @@ pub fn is_lawful(before: Option<u8>, cell: u8) -> bool
 pub fn wrong_cell(cells: &[u8]) -> Option<usize>
     ensures { result ≡ wrong_cell cells.now }
 {
+    // a loop, as each cell is held against the one before it
     let mut before = None;
     for (place, cell) in cells.iter().enumerate() {
         if !is_lawful(before, *cell) {

@@ -11,6 +11,7 @@ mod tests {
     use std::alloc::{AllocError, Global};
     use std::test::Fail;
 
+    // The page of the theme's tests too: a crate that has only tests lends nothing.
     const TWO: &[u8] = b"   2   2\n   0   7 p\n   1   8 p\n";
 
     const THREE: &[u8] = b"   3   1\n   0  23 p\n   1  23 b\n   2   0 p\n";
