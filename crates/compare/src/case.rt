@@ -23,7 +23,7 @@ pub struct Place {
     pub fixed: Option<u8>,
 }
 
-/// The keys that a line may use. The second engine has keys of its own, since it shares nothing with the first.
+/// The keys that a line may use, one at least. A script's keys are two numbers that may yet be refused; these never are.
 #[derive(Clone, Copy)]
 pub struct Keys {
     pub lowest: u8,
