@@ -1,8 +1,9 @@
 // Draft sheets, which take load, add, drop, fix and free, and closed sheets, which take the questions.
 // A sheet has all the room that it can ever need from its beginning.
-ghost use Rattle.std.specs.Prelude.{◌≡◌, ◌≤◌, true, length, IfOk};
+ghost use Rattle.std.specs.Prelude.{◌≡◌, ◌≤◌, ◌==◌, true, length, IfOk};
 ghost use Rattle.theme.specs.Refusals.{first_no, answer};
 ghost use Rattle.theme.specs.Pages.{refusal_of};
+ghost use Rattle.theme.specs.Themes.{blank_or_lawful};
 ghost use Rattle.rules.specs.Plain.{blank, unless, loaded, add_questions, added, drop_questions, dropped, free_questions, freed, fix_questions, fixed, places_of, all_in_range};
 ghost use Rattle.rules.specs.Courses.{Load, Add, Drop, Fix, Free, Close, Reopen, draft_at, closed_at};
 ghost use Rattle.rules.specs.Faults.{Done, Kept, told_page, told_done, unweighed};
@@ -68,6 +69,17 @@ impl Draft {
             list,
             fixings,
         })
+    }
+
+    /// Whether no theme is loaded.
+    pub fn is_blank(&self) -> bool
+        ensures value { result ≡ (places_of self.now == 0) }
+        ensures few { length self.now.list ≤ 8 }
+        ensures level { length self.now.fixings ≡ places_of self.now }
+        ensures in_range { all_in_range (places_of self.now) self.now.list ≡ true }
+        ensures lawful { blank_or_lawful self.now.theme.places self.now.theme.bar ≡ true }
+    {
+        self.theme.is_empty()
     }
 
     /// Takes the theme of a page, lists the original combination alone and frees every place.

@@ -3,7 +3,7 @@
 ghost use Rattle.std.specs.Prelude.{◌≡◌, true, Some, None, MatchResult};
 ghost use Rattle.theme.specs.Refusals.{first_no, answer};
 ghost use Rattle.rules.specs.Plain.{unless};
-ghost use Rattle.rules.specs.Compasses.{between, compass_questions, trial_questions, trial_fits, with_trial};
+ghost use Rattle.rules.specs.Compasses.{between, compass_questions, keys_fit, trial_questions, trial_fits, with_trial};
 
 use rules::refusal::Refusal;
 use rules::trial::Trial;
@@ -53,14 +53,16 @@ impl Compass {
 
     /// The trial in force, if any.
     pub fn trial(&self) -> Option<Trial>
-        ensures { result ≡ self.now.trial }
+        ensures value { result ≡ self.now.trial }
+        ensures within { trial_fits self.now.lowest self.now.highest result ≡ true }
     {
         self.trial
     }
 
     /// Whether a key lies in the compass.
     pub fn has(&self, key: u8) -> bool
-        ensures { result ≡ between self.now.lowest self.now.highest key }
+        ensures value { result ≡ between self.now.lowest self.now.highest key }
+        ensures fit { keys_fit self.now.lowest self.now.highest ≡ true }
     {
         (self.lowest..=self.highest).contains(&key)
     }

@@ -1,8 +1,8 @@
 // A theme in memory: room for 64 places, reserved once, so that no page read later can want memory.
 // Knows nothing of pages.
-ghost use Rattle.std.specs.Prelude.{◌≡◌, ◌<◌, ◌≤◌, ◌==◌, length, IfOk};
+ghost use Rattle.std.specs.Prelude.{◌≡◌, ◌<◌, ◌≤◌, ◌==◌, true, length, IfOk};
 ghost use Rattle.std.specs.List.{slice_get};
-ghost use Rattle.theme.specs.Themes.{blank_theme};
+ghost use Rattle.theme.specs.Themes.{blank_or_lawful, blank_theme};
 
 use super::place::Place;
 use std::alloc::{AllocError, Global};
@@ -50,7 +50,8 @@ impl Theme {
 
     /// Whether no page has been read yet.
     pub fn is_empty(&self) -> bool
-        ensures { result ≡ (length self.now.places == 0) }
+        ensures value { result ≡ (length self.now.places == 0) }
+        ensures lawful { blank_or_lawful self.now.places self.now.bar ≡ true }
     {
         self.places.is_empty()
     }
@@ -59,13 +60,15 @@ impl Theme {
     pub fn bar(&self) -> usize
         ensures value { result ≡ self.now.bar }
         ensures some { 0 < length self.now.places → 0 < result }
+        ensures lawful { blank_or_lawful self.now.places self.now.bar ≡ true }
     {
         self.bar
     }
 
     /// The place with this number, if there is one.
     pub fn place(&self, number: usize) -> Option<Place>
-        ensures { result ≡ slice_get self.now.places number }
+        ensures value { result ≡ slice_get self.now.places number }
+        ensures lawful { blank_or_lawful self.now.places self.now.bar ≡ true }
     {
         self.places.get(number).copied()
     }
