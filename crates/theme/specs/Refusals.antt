@@ -52,3 +52,7 @@ page_refused_words r =
 abbrev pub write_number : WriteRefusal → ℕ
 write_number NoTheme = 12
 write_number OutputTooShort = 37
+
+-- the words for it: its number
+abbrev pub write_refused_words : WriteRefusal → List ℕ
+write_refused_words r = codes "refused " ++ decimal (write_number r)

@@ -1,6 +1,6 @@
 // One place of a theme, and the letter of its mark. Knows nothing of pages.
-ghost use Rattle.std.specs.Prelude.{◌≡◌};
-ghost use Rattle.theme.specs.Places.{ReadsMark, letter_of};
+ghost use Rattle.std.specs.Prelude.{◌≡◌, Some};
+ghost use Rattle.theme.specs.Places.{ReadsMark, letter_of, unknown_mark_words};
 
 use std::error::Error;
 use std::fmt;
@@ -52,6 +52,8 @@ impl From<Mark> for u8 {
 }
 
 impl fmt::Display for UnknownMark {
+    ghost output = { λ _. Some unknown_mark_words };
+
     fn fmt<W: fmt::Write>(&self, f: &mut fmt::Formatter<W>) -> fmt::Result {
         f.write_str("a mark is p or b")
     }

@@ -1,6 +1,6 @@
 // Why a page is not read or not written. Knows nothing of themes.
 ghost use Rattle.std.specs.Prelude.{◌≡◌, Some};
-ghost use Rattle.theme.specs.Refusals.{page_number, page_refused_words, refused, write_number};
+ghost use Rattle.theme.specs.Refusals.{page_number, page_refused_words, refused, write_number, write_refused_words};
 
 use std::error::Error;
 use std::fmt;
@@ -97,6 +97,8 @@ impl From<WriteRefusal> for u32 {
 }
 
 impl fmt::Display for WriteRefusal {
+    ghost output = { λ refusal. Some (write_refused_words refusal) };
+
     fn fmt<W: fmt::Write>(&self, f: &mut fmt::Formatter<W>) -> fmt::Result {
         let number = u32::from(*self);
         write!(f, "refused {number}")
