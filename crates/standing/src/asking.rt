@@ -5,10 +5,11 @@ ghost use Rattle.theme.specs.Refusals.{first_no};
 ghost use Rattle.engine.specs.Lines.{every};
 ghost use Rattle.rules.specs.Meeting.{moment_of, succession_of};
 ghost use Rattle.rules.specs.Plain.{places_of};
-ghost use Rattle.rules.specs.Questions.{base_questions, tried_below};
+ghost use Rattle.rules.specs.Questions.{base_questions};
 ghost use Rattle.rules.specs.Standing.{agrees, keeps, kept_at, tried_at, way};
 ghost use Rattle.standing.specs.Asking.{asked_by};
 
+use super::asked::check_trial;
 use super::compass::Compass;
 use super::meeting::Meeting;
 use counterpoint::book::Book;
@@ -25,13 +26,6 @@ pub struct Asking<'a, B> {
     pub sheet: &'a Closed,
     pub book: &'a B,
     pub compass: &'a Compass,
-}
-
-// Whether a tried place is one of so many.
-fn is_tried_below(trial: Option<Trial>, places: usize) -> bool
-    ensures { result ≡ tried_below trial places }
-{
-    trial.is_none_or(|trial| trial.place < places)
 }
 
 // Whether a key is the one asked for, if one is.
@@ -66,15 +60,7 @@ impl<B: Book> Asking<'_, B> {
     pub fn check_trial(&self) -> Result<usize, Refusal>
         ensures { MatchResult result (λ n. (first_no (base_questions self.now.sheet.now self.now.compass.now) ≡ None) × (n ≡ places_of self.now.sheet.now) × (0 < n) × (n ≤ 64)) (λ e. first_no (base_questions self.now.sheet.now self.now.compass.now) ≡ Some e) }
     {
-        let theme = self.sheet.theme();
-        if theme.is_empty() {
-            return Err(Refusal::NoTheme);
-        }
-        let places = theme.len();
-        if !is_tried_below(self.compass.trial(), places) {
-            return Err(Refusal::TrialBeyondTheme);
-        }
-        Ok(places)
+        check_trial(self.sheet, self.compass)
     }
 
     // Whether a cell keeps the compass, the trial and the key fixed at its place.

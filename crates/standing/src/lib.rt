@@ -2,6 +2,7 @@
 // Knows nothing of measures, and of books only that they say yes or no.
 #![tactic(auto)]
 
+pub mod asked;
 pub mod asking;
 pub mod checking;
 pub mod compass;
