@@ -1,6 +1,6 @@
+pub mod Filling
 pub mod Firsts
 pub mod Lists
-pub mod Made
 pub mod Numberings
 pub mod Picks
 pub mod Rests

@@ -8,7 +8,7 @@ use Rattle.engine.specs.Words.{said}
 
 -- what the verdicts say
 abbrev pub way_of : Roster → Way
-way_of roster = said roster.verdicts.words
+way_of roster = said roster.verdicts.now.words
 
 -- all ways from the cell c at place t through the places after it and then to the cell goal
 abbrev pub rest_from : {M : Type 0} → Ring M → Roster → ℕ → ℕ → ℕ → M

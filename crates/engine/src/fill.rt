@@ -65,7 +65,7 @@ impl<M: Measure> Store<'_, M> {
     }
 }
 
-impl Roster {
+impl Roster<'_> {
     /// Fills a place, the places after it being filled.
     fn fill_place<M: Measure>(&self, cells: &mut [M], goal: usize, place: usize)
         requires bounds { (place < self.now.places) × ((goal < 48) × (length cells.old ≡ 48 * self.now.places)) }
@@ -75,7 +75,7 @@ impl Roster {
         // by index, as no element is known after `iter_mut`
         for cell in 0..CELLS {
             let store = Store {
-                roster: self,
+                roster: &*self,
                 goal,
                 from: place + 1,
                 cells,

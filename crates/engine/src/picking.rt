@@ -15,7 +15,7 @@ use crate::passage::Passage;
 use crate::roster::Roster;
 use crate::store::Store;
 use crate::unfit::Unfit;
-use crate::verdicts::CELLS;
+use crate::verdicts::{CELLS, Verdicts};
 use measure::number::Number;
 
 /// A cell to go on by, and a line's number among those that do.
@@ -64,7 +64,7 @@ impl Store<'_, Number> {
     }
 }
 
-impl Roster {
+impl Roster<'_> {
     /// The start cell of the line with a number, if there are so many, for which the cells are then filled.
     fn first_turn(&self, cells: &mut [Number], k: u32) -> Option<Turn>
         requires { (k < 1000000000) × (length cells.old ≡ 48 * self.now.places) }
@@ -93,7 +93,7 @@ impl Roster {
             return false;
         };
         let store = Store {
-            roster: self,
+            roster: &*self,
             goal: start.cell,
             from: 0,
             cells,
@@ -101,6 +101,23 @@ impl Roster {
         store.trace_number(start.number, line);
         true
     }
+}
+
+/// The same, asked of a passage, where there is room for the working values and the line.
+// A function of its own: the table of verdicts is among its locals, which are cleared only once the arguments are checked.
+fn write_picked<P: Passage>(
+    passage: &P,
+    places: usize,
+    cells: &mut [Number],
+    line: &mut [u8],
+    k: u32,
+) -> bool
+    requires { (0 < places) × ((places ≤ 64) × ((k < 1000000000) × ((length cells.old ≡ 48 * places) × (length line.old ≡ places)))) }
+    ensures answer { result ≡ is_some (slice_get (roster (P.way passage.now) places) k) }
+    ensures line { line.new ≡ written (slice_get (roster (P.way passage.now) places) k) line.old }
+{
+    let verdicts = Verdicts::of(passage, places);
+    Roster::of(&verdicts, places).pick_line(cells, line, k)
 }
 
 /// Writes the line of `n` cells that goes round and has the number `k`, counted from 0 in order, and says
@@ -120,6 +137,5 @@ pub fn pick<P: Passage>(
     ensures refused { is_ok result ≡ false → memory.new ≡ memory.old }
 {
     pick_for(n, memory.len(), line.len(), k)?;
-    let roster = Roster::of(passage, n);
-    Ok(roster.pick_line(&mut memory[..CELLS * n], &mut line[..n], k))
+    Ok(write_picked(passage, n, &mut memory[..CELLS * n], &mut line[..n], k))
 }

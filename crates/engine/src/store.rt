@@ -14,7 +14,7 @@ use measure::algebra::Measure;
 // read: a ghost field states a fact, and can hold none.
 #[derive(Drop)]
 pub struct Store<'a, M: Measure> {
-    pub(crate) roster: &'a Roster,
+    pub(crate) roster: &'a Roster<'a>,
     pub(crate) goal: usize,
     pub(crate) from: usize,
     pub(crate) cells: &'a [M],

@@ -15,7 +15,7 @@ use crate::passage::Passage;
 use crate::roster::Roster;
 use crate::store::Store;
 use crate::unfit::Unfit;
-use crate::verdicts::CELLS;
+use crate::verdicts::{CELLS, Verdicts};
 use measure::algebra::Choosing;
 
 impl<M: Choosing> Store<'_, M> {
@@ -57,7 +57,7 @@ impl<M: Choosing> Store<'_, M> {
     }
 }
 
-impl Roster {
+impl Roster<'_> {
     /// The first start cell whose lines come to the total, for which the cells are then filled.
     fn best_start<M: Choosing>(&self, cells: &mut [M], total: M) -> Option<usize>
         requires { length cells.old ≡ 48 * self.now.places }
@@ -85,7 +85,7 @@ impl Roster {
         }
         let goal = self.best_start(cells, total).unwrap();
         let store = Store {
-            roster: self,
+            roster: &*self,
             goal,
             from: 0,
             cells,
@@ -93,6 +93,22 @@ impl Roster {
         store.trace(total, line);
         true
     }
+}
+
+/// The same, asked of a passage, where there is room for the working values and the line.
+// A function of its own: the table of verdicts is among its locals, which are cleared only once the arguments are checked.
+fn write_first<M: Choosing, P: Passage>(
+    passage: &P,
+    places: usize,
+    cells: &mut [M],
+    line: &mut [u8],
+) -> bool
+    requires { (0 < places) × ((places ≤ 64) × ((length cells.old ≡ 48 * places) × (length line.old ≡ places))) }
+    ensures answer { result ≡ is_some (first_best M.ring M.picks places (roster (P.way passage.now) places)) }
+    ensures line { line.new ≡ written (first_best M.ring M.picks places (roster (P.way passage.now) places)) line.old }
+{
+    let verdicts = Verdicts::of(passage, places);
+    Roster::of(&verdicts, places).first_line(cells, line)
 }
 
 /// Writes the first line of `n` cells that goes round and whose weight is the joined weight of all of them,
@@ -111,6 +127,5 @@ pub fn first<M: Choosing, P: Passage>(
     ensures refused { is_ok result ≡ false → memory.new ≡ memory.old }
 {
     line_for(n, memory.len(), line.len())?;
-    let roster = Roster::of(passage, n);
-    Ok(roster.first_line(&mut memory[..CELLS * n], &mut line[..n]))
+    Ok(write_first(passage, n, &mut memory[..CELLS * n], &mut line[..n]))
 }

@@ -4,7 +4,6 @@ ghost use Rattle.std.specs.Prelude.{◌≡◌, ℕ, ◌+◌, ◌*◌, ◌<◌, �
 ghost use Rattle.engine.specs.Words.{bit, inside, said};
 
 use crate::passage::Passage;
-use std::array;
 
 /// How many cells there are: two for each of 24 keys.
 pub const CELLS: usize = 48;
@@ -45,18 +44,14 @@ impl Verdicts {
     pub fn of<P: Passage>(passage: &P, places: usize) -> Verdicts
         ensures { (t c d : ℕ) → said result.words t c d ≡ ((nat_lt t places && inside t c d) && P.way passage.now t c d) }
     {
-        let words_at = |place| -> [u64; CELLS]
-            ensures { (c d : ℕ) → c < 48 → d < 48 → bit (slice_index result c) d ≡ (nat_lt place places && P.way passage.entry.now place c d) }
-        {
-            if place < places {
-                array::from_fn(|cell| word_of(passage, place, cell))
-            } else {
-                [0; CELLS]
+        // in place and by index: what `array::from_fn` makes is copied, row by row and as a whole
+        let mut words = [[0; CELLS]; PLACES];
+        for place in 0..places.min(PLACES) {
+            for cell in 0..CELLS {
+                words[place][cell] = word_of(passage, place, cell);
             }
-        };
-        Verdicts {
-            words: array::from_fn(words_at),
         }
+        Verdicts { words }
     }
 
     /// The word of a place and a cell.

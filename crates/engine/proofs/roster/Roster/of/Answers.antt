@@ -5,8 +5,7 @@ use Rattle.engine.proofs.Shifts.{said_agrees}
 use Rattle.engine.proofs.roster.Roster.of.Goals as goal
 
 pub returns-clause-lines : goal.returns-clause-lines
-returns-clause-lines g c =
+returns-clause-lines c way says =
     let n = c.args.places in
-    let words = c.of-verdicts.result.words in
-    let way = g.P.Passage.way c.args.passage.now in
-    roster_cong (said words) way n (omega arith) (said_agrees words way n (omega arith) c.of-verdicts.ensures)
+    let words = c.args.verdicts.now.words in
+    roster_cong (said words) way n (omega arith) (said_agrees words way n (omega arith) says)
