@@ -2,6 +2,10 @@
 // of the line that moves least over the strict book, or says why there is none.
 #![tactic(auto)]
 
+ghost use Rattle.std.specs.Prelude.{◌≡◌, ◌*◌, ◌≤◌, IfOk, vec_len};
+ghost use Rattle.paper.specs.Written.{combination_length};
+ghost use Rattle.rules.specs.Plain.{places_of};
+
 use books::strict::Strict;
 use engine::verdicts::CELLS;
 use measure::algebra::Measure;
@@ -59,7 +63,10 @@ impl From<AllocError> for Halt {
 }
 
 // Both combinations of the least line of a sheet with two, one behind the other.
-fn write_both(heap: Global, sheet: &Closed) -> Result<Vec<u8>, Halt> {
+fn write_both(heap: Global, sheet: &Closed) -> Result<Vec<u8>, Halt>
+    ensures whole { IfOk result (λ out. vec_len out ≡ 2 * combination_length (places_of sheet.now)) }
+    ensures fits { IfOk result (λ out. vec_len out ≤ 2202) }
+{
     let mut memory = vec![in heap; Movement::NONE; ROOM]?;
     let mut line = [0; MOST_PLACES];
     let compass = Compass::new(0, HIGHEST_KEY)?;
@@ -79,7 +86,9 @@ fn write_both(heap: Global, sheet: &Closed) -> Result<Vec<u8>, Halt> {
 }
 
 // What a page comes to: both combinations of its least line.
-fn compose(heap: Global, page: &[u8]) -> Result<Vec<u8>, Halt> {
+fn compose(heap: Global, page: &[u8]) -> Result<Vec<u8>, Halt>
+    ensures { IfOk result (λ out. vec_len out ≤ 2202) }
+{
     let mut draft = Draft::blank(heap)?;
     draft.load(page)?;
     draft.add(Setting { jv: -7, entry: 0 })?;
