@@ -1,6 +1,6 @@
 // Puts the questions to a closed sheet and holds each answer against the second engine's.
 use crate::case::{Case, MOST, ROOM};
-use crate::judging::{beginning, judge, least_moved, movement, string, strings};
+use crate::judging::{beginning, judge, least_moved, movement, strings, write_string};
 use anyhow::ensure;
 use counterpoint::book::Book;
 use measure::algebra::Measure;
@@ -51,10 +51,11 @@ impl<B: Book> Asked<'_, B> {
     /// All strings in the compass that stand, in order.
     pub(crate) fn check_strings(&self) -> anyhow::Result<Vec<Vec<u8>>> {
         let mut lines = Vec::new(self.heap);
+        let mut line = vec![in self.heap; 0; self.case.places.len()]?;
         for number in 0..strings(self.case) {
-            let line = string(self.heap, self.case, number)?;
+            write_string(self.case, number, &mut line);
             if self.compare_check(&line)? {
-                lines.push(line)?;
+                lines.push(line.clone()?)?;
             }
         }
         Ok(lines)

@@ -1,5 +1,5 @@
 // Families of cases that are alike in their number of places and their books.
-ghost use Rattle.std.specs.Prelude.{◌<◌, ◌≤◌};
+ghost use Rattle.std.specs.Prelude.{◌≡◌, ◌<◌, ◌≤◌, IfOk};
 
 use crate::asking::Asked;
 use crate::case::Case;
@@ -64,6 +64,8 @@ impl fmt::Display for Family {
 /// What the comparison of cases comes to.
 #[derive(Clone, Copy, Default)]
 pub struct Tally {
+    /// How many cases were compared.
+    pub cases: u32,
     /// How many strings of cells were tried.
     pub tried: usize,
     /// How many of those in the compasses stood.
@@ -72,7 +74,12 @@ pub struct Tally {
 
 impl fmt::Display for Tally {
     fn fmt<W: fmt::Write>(&self, f: &mut fmt::Formatter<W>) -> fmt::Result {
-        write!(f, "{} tried, {} stand", self.tried, self.stood)
+        let Tally {
+            cases,
+            tried,
+            stood,
+        } = self;
+        write!(f, "{cases} cases, {tried} tried, {stood} stand")
     }
 }
 
@@ -117,18 +124,26 @@ fn compare_under<B: Book + Drop>(heap: Global, case: &Case, book: B) -> anyhow::
 }
 
 // Compares the next case of a family.
-fn compare_next(heap: Global, dice: &mut Dice, family: Family) -> anyhow::Result<Tally> {
+fn compare_next(heap: Global, dice: &mut Dice, family: Family) -> anyhow::Result<Tally>
+    ensures { IfOk result (λ tally. tally.cases ≡ 1) }
+{
     let case = make_case(heap, dice, family)?;
     let stood = match case.rules.base {
         Base::Strict => compare_under(heap, &case, Strict)?,
         Base::Free => compare_under(heap, &case, Free)?,
     };
     let tried = case.strays.len().saturating_add(strings(&case) as usize);
-    Ok(Tally { tried, stood })
+    Ok(Tally {
+        cases: 1,
+        tried,
+        stood,
+    })
 }
 
 /// Compares every case of a family.
-pub(crate) fn compare_family(heap: Global, family: Family) -> anyhow::Result<Tally> {
+pub(crate) fn compare_family(heap: Global, family: Family) -> anyhow::Result<Tally>
+    ensures { IfOk result (λ tally. tally.cases ≡ family.size.cases) }
+{
     // the kind of the books counts only here, so that each family has dice of its own
     let state = u32::from(family.size.places) * 3 + family.shelf as u32;
     let mut dice = Dice { state };
@@ -137,6 +152,7 @@ pub(crate) fn compare_family(heap: Global, family: Family) -> anyhow::Result<Tal
         let next = compare_next(heap, &mut dice, family).map_err(|error| anyhow!(
             "after {cases} cases {error}"
         ))?;
+        tally.cases = tally.cases.saturating_add(next.cases);
         tally.tried = tally.tried.saturating_add(next.tried);
         tally.stood = tally.stood.saturating_add(next.stood);
     }

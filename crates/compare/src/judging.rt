@@ -6,7 +6,6 @@ use crate::case::Case;
 use counterpoint::moments::{Moment, Succession, Voice};
 use rules::combination::Combination;
 use rules::refusal::Refusal;
-use std::alloc::{AllocError, Global};
 
 // A case in one of its combinations.
 #[derive(Clone, Copy)]
@@ -121,17 +120,16 @@ pub(crate) fn strings(case: &Case) -> u32 {
     cells.pow(case.places.len() as u32)
 }
 
-/// The string of cells with a number, counted in order from 0.
-pub(crate) fn string(heap: Global, case: &Case, number: u32) -> Result<Vec<u8>, AllocError> {
+/// Writes the string of cells with a number, counted in order from 0.
+// Into a lent string, as most strings are judged once and then no more.
+pub(crate) fn write_string(case: &Case, number: u32, line: &mut [u8]) {
     let cells = 2 * u32::from(case.keys.count());
     let lowest = 2 * case.keys.lowest;
-    let mut line = vec![in heap; 0; case.places.len()]?;
     let mut rest = number;
     for cell in line.iter_mut().rev() {
         *cell = lowest + (rest % cells) as u8;
         rest /= cells;
     }
-    Ok(line)
 }
 
 /// The sum of step sizes of a line, round the barrel.

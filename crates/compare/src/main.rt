@@ -81,11 +81,10 @@ fn run(rt: &HostRuntime) -> anyhow::Result<()> {
         .iter()
         .flat_map(|size| SHELVES.map(|shelf| Family { shelf, size: *size }));
     for family in families {
-        print!(rt; "{family}: ")?;
         match compare_family(rt.alloc(), family) {
-            Ok(tally) => println!(rt; "{} cases, {tally}", family.size.cases)?,
+            Ok(tally) => println!(rt; "{family}: {tally}")?,
             Err(error) => {
-                println!(rt; "{error}")?;
+                println!(rt; "{family}: {error}")?;
                 return Ok(());
             }
         }
