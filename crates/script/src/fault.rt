@@ -1,10 +1,11 @@
 // Why a line of a script is not taken. Knows nothing of lines.
 ghost use Rattle.std.specs.Prelude.{◌≡◌, Some};
-ghost use Rattle.script.specs.declared.fault.Fault.TheVariants.{Memory};
+ghost use Rattle.script.specs.declared.fault.Fault.TheVariants.{NotACall, Memory};
 ghost use Rattle.script.specs.Words.{fault_words};
 
 use std::alloc::{AllocError, AllocFailed};
 use std::fmt;
+use std::num::ParseIntError;
 
 /// Why a line is not taken.
 #[derive(Clone, Copy, PartialEq, Eq, Hash, Debug)]
@@ -26,6 +27,14 @@ impl fmt::Display for Fault {
             Fault::Unreadable => f.write_str("the file cannot be read"),
             Fault::Memory => f.write_str("no memory is left"),
         }
+    }
+}
+
+impl From<ParseIntError> for Fault {
+    ghost from_gives = { λ _ r. r ≡ NotACall };
+
+    fn from(_e: ParseIntError) -> Fault {
+        Fault::NotACall
     }
 }
 

@@ -1,5 +1,5 @@
 // What a line of a script can say, as data. Knows nothing of words.
-use super::book::Rules;
+pub use super::book::Rules;
 use course::call::Call;
 use rules::trial::Trial;
 
