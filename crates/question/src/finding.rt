@@ -31,8 +31,8 @@ fn find_first<B: Book, M: Choosing>(
     ensures refused { (e : Refusal) → first_no (line_questions asking.now.sheet.now asking.now.compass.now (length memory.old) (length line.old)) ≡ Some e → memory.new ≡ memory.old }
     ensures few { first_no (line_questions asking.now.sheet.now asking.now.compass.now (length memory.old) (length line.old)) ≡ None → places_of asking.now.sheet.now ≤ 64 }
 {
-    let places = asking.check_trial()?;
-    if !engine::tracing::first(asking, places, memory, line)? {
+    let cells = asking.check_trial()?;
+    if !engine::tracing::first(asking, cells, memory, line)? {
         return Err(Refusal::NoLineStands);
     }
     Ok(())
