@@ -65,7 +65,7 @@ impl From<AllocError> for Halt {
 // Both combinations of the least line of a sheet with two, one behind the other.
 fn write_both(heap: Global, sheet: &Closed) -> Result<Vec<u8>, Halt>
     ensures whole { IfOk result (λ out. vec_len out ≡ 2 * combination_length (places_of sheet.now)) }
-    ensures fits { IfOk result (λ out. vec_len out ≤ 2202) }
+    ensures fits { IfOk result (λ out. vec_len out ≤ 2 * combination_length 64) }
 {
     let mut memory = vec![in heap; Movement::NONE; ROOM]?;
     let mut line = [0; MOST_PLACES];
@@ -87,7 +87,7 @@ fn write_both(heap: Global, sheet: &Closed) -> Result<Vec<u8>, Halt>
 
 // What a page comes to: both combinations of its least line.
 fn compose(heap: Global, page: &[u8]) -> Result<Vec<u8>, Halt>
-    ensures { IfOk result (λ out. vec_len out ≤ 2202) }
+    ensures { IfOk result (λ out. vec_len out ≤ 2 * combination_length 64) }
 {
     let mut draft = Draft::blank(heap)?;
     draft.load(page)?;
